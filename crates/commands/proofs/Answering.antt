@@ -1,6 +1,8 @@
 -- How runs end, and what a status says of a run.
-use Rattle.std.proofs.Common.{◌≡◌, ◌≢◌, ◌≤◌, ◌∙◌, ◌⊎◌, ⊎_elim, inl, inr, refl, sym, ℕ, List, [], Option, Some, None}
-use Rattle.clap.specs.Walk.{Text}
+use Rattle.std.proofs.Common.{◌≡◌, ◌≢◌, ◌≤◌, ◌∙◌, ◌⊎◌, ⊎_elim, inl, inr, ap, arith, refl, sym, ℕ, List, [], Option, Some, None, get_or}
+use Rattle.std.specs.Prelude.{codes}
+use Rattle.clap.specs.Simple.{subcommand_of}
+use Rattle.clap.specs.Walk.{Row, Text}
 use Rattle.disk_trait.specs.declared.disk.Disk.{Ghosts}
 use Rattle.command_output.specs.Faults.{IsNotUnderstood, status_of}
 use Rattle.command_output.specs.Printing.{Known}
@@ -9,11 +11,14 @@ use Rattle.command_output.specs.declared.ended.Ended.TheVariants.{Done, Refused}
 use Rattle.command_output.specs.declared.fault.Fault.{Fault}
 use Rattle.command_output.specs.declared.fault.Fault.TheVariants as told
 use Rattle.command_line.specs.declared.task.Task.{Task}
-use Rattle.command_line.specs.declared.task.Task.TheVariants.{Serve}
+use Rattle.command_line.specs.Asked.{IsAskedFor, name_of}
+use Rattle.command_line.specs.Grammar.{program}
+use Rattle.command_line.specs.declared.task.Task.TheVariants.{Check, Copy, Edit, Format, Migrate, Resume, Route, Serve, Show, Tables}
 use Rattle.table_files.specs.Files.{Put}
 use Rattle.file_commands.specs.Devices.{Doing}
 use Rattle.file_commands.specs.Endings.{MayEndAlone, MayEndTables}
 use Rattle.file_commands.specs.Events.{Event}
+use Rattle.file_commands.specs.Tasks.{IsService}
 use Rattle.file_commands.specs.Printed.{PrintedAlone, PrintedTables}
 use Rattle.file_commands.proofs.Places as rest
 use Rattle.commands.specs.declared.outcome.Outcome.{Outcome}
@@ -187,6 +192,38 @@ fails_serving : {D : Type 0} (model : Ghosts D) (done : Doing D) (put : List Put
 fails_serving model done put words given old new fault asks (inl refused) = inl (refused.0, refused.1.3 asks.0 asks.1)
 fails_serving model done put words given old new fault asks (inr may) = inr (may.0, may.1, ends_serving model done put may.0 given old new fault may.2)
 
+-- a task of the name of a service is one
+serves_by_name : (task : Task) → name_of task ≡ codes "serve" → IsService task
+serves_by_name (Format device nodes) same = (let first : 102 ≡ 115 = ap (λ (n : Text). get_or n 0 0) same in omega (arith, first))
+serves_by_name (Show device) same = (let second : 104 ≡ 101 = ap (λ (n : Text). get_or n 1 0) same in omega (arith, second))
+serves_by_name (Edit device session ticket change) same = (let first : 101 ≡ 115 = ap (λ (n : Text). get_or n 0 0) same in omega (arith, first))
+serves_by_name (Resume device session) same = (let first : 114 ≡ 115 = ap (λ (n : Text). get_or n 0 0) same in omega (arith, first))
+serves_by_name (Route device pairs words) same = (let first : 114 ≡ 115 = ap (λ (n : Text). get_or n 0 0) same in omega (arith, first))
+serves_by_name (Check device words) same = (let first : 99 ≡ 115 = ap (λ (n : Text). get_or n 0 0) same in omega (arith, first))
+serves_by_name (Migrate old new) same = (let first : 109 ≡ 115 = ap (λ (n : Text). get_or n 0 0) same in omega (arith, first))
+serves_by_name (Copy old new) same = (let first : 99 ≡ 115 = ap (λ (n : Text). get_or n 0 0) same in omega (arith, first))
+serves_by_name (Serve device editors forwarders places live words) same = tt
+serves_by_name (Tables device folder nodes words) same = (let first : 116 ≡ 115 = ap (λ (n : Text). get_or n 0 0) same in omega (arith, first))
+
+name_of_service : (task : Task) → IsService task → name_of task ≡ codes "serve"
+name_of_service (Serve device editors forwarders places live words) is = refl
+name_of_service _ is = absurd is
+
+one_name : (o : Option (Text × List Row)) (p q : Text × List Row) → o ≡ Some p → o ≡ Some q → p.0 ≡ q.0
+one_name o p q here there = (let same : p ≡ q = cc in ap (λ (x : Text × List Row). x.0) same)
+
+-- words that ask for a service ask for nothing else
+serve_alone : (words : List Text) (task : Task) → AskService words → IsAskedFor words task → IsService task
+serve_alone words task asks is =
+    let names = one_name (subcommand_of program words) (is.0, is.1) (asks.1.0, asks.1.1) is.2.1 asks.1.2.1 in
+    serves_by_name task (sym is.3.0 ∙ names ∙ asks.1.3.0 ∙ name_of_service asks.0 asks.2)
+
+-- and a service's answer is never no
+never_refused : {D : Type 0} (model : Ghosts D) (done : Doing D) (task : Task) (given old new : Known) → IsService task → PrintedServing model done task given Refused old new → ⊥
+never_refused model done (Serve device editors forwarders places None words) given old new is printed = (let no : Refused ≡ Done = printed.0 in absurd (cc))
+never_refused model done (Serve device editors forwarders places (Some rounds) words) given old new is printed = (let no : Refused ≡ Done = printed.0 in absurd (cc))
+never_refused model done _ given old new is printed = is
+
 says_serving : {D R W : Type 0} (model : Ghosts D) (done : Doing D) (put : List Put → Type 0) (words : List Text) (remaining : R → Known) (contents : W → Known) (script left : R) (out printed : W) (code : ℕ) → SaysAll model done put words remaining contents script left out printed code
     → SaysServing model done words remaining contents script out printed code × StopsServing model done words remaining contents script out printed code
 says_serving model done put words remaining contents script left out printed code says =
@@ -195,8 +232,8 @@ says_serving model done put words remaining contents script left out printed cod
     let after = contents printed in (
       (λ zero. (let is = says.answered zero in (is.0, is.1, printed_serving model done put is.0 given Done before after is.2))),
       record {
-        refused = λ one asks. ⊎_elim (λ is. inl (is.0, is.1, printed_serving model done put is.0 given Refused before after is.2))
-            (λ why. inr (why.0, why.1, fails_serving model done put words given before after why.0 asks why.2, why.3)) (says.refused one);
+        refused = λ one asks. ⊎_elim (λ is. absurd (never_refused model done is.0 given before after (serve_alone words is.0 asks is.1) (printed_serving model done put is.0 given Refused before after is.2)))
+            (λ why. (why.0, why.1, fails_serving model done put words given before after why.0 asks why.2, why.3)) (says.refused one);
         not_understood = λ two asks. (let why = says.not_understood two in (why.1.0, why.1.1, fails_serving model done put words given before after why.1.0 asks why.1.2));
       },
     )

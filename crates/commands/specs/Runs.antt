@@ -208,8 +208,7 @@ abbrev pub SaysServing : {D R W : Type 0} → Ghosts D → Doing D → List Text
 SaysServing model done words remaining contents script out out_new code =
     code ≡ 0 → OfTask words (λ task. PrintedServing model done task (remaining script) Done (contents out) (contents out_new))
 
--- .. with another status it was refused, or a fault ended it, where the words ask for it
+-- .. with another status a fault ended it, where the words ask for it
 pub record StopsServing {D R W : Type 0} (model : Ghosts D) (done : Doing D) (words : List Text) (remaining : R → Known) (contents : W → Known) (script : R) (out out_new : W) (code : ℕ) : Type 0 where
-  pub refused : code ≡ 1 → AskService words → OfTask words (λ task. PrintedServing model done task (remaining script) Refused (contents out) (contents out_new))
-      ⊎ ((fault : Fault) × ¬ IsNotUnderstood fault × IsServingFault model done words (remaining script) (contents out) (contents out_new) fault × (¬ AskLive words → fault ≢ told.Output → out_new ≡ out))
+  pub refused : code ≡ 1 → AskService words → (fault : Fault) × ¬ IsNotUnderstood fault × IsServingFault model done words (remaining script) (contents out) (contents out_new) fault × (¬ AskLive words → fault ≢ told.Output → out_new ≡ out)
   pub not_understood : code ≡ 2 → AskService words → (fault : Fault) × IsNotUnderstood fault × IsServingFault model done words (remaining script) (contents out) (contents out_new) fault

@@ -9,7 +9,7 @@ use Rattle.service_workers.proofs.editing.settled.Goals as goal
 
 pub returns-in-Ok-Settled-clause-mark : goal.returns-in-Ok-Settled-clause-mark
 returns-in-Ok-Settled-clause-mark g c =
-    let e = c.outcome.new.self in
+    let e = c.standing.new.self in
     let mark = c.in-Ok-Settled.mark in
     let says : standing_on (board_after e.known) e.session (last_asked e.put) ≡ Settled mark = sym c.in-Ok-Settled.ensures.standing ∙ c.in-Ok-Settled.field-0-is in
     let shown = settled_by (board_after e.known) e.session (last_asked e.put) mark says in
