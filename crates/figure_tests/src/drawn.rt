@@ -1,37 +1,18 @@
 // Drawn networks beside a slow count, and pairs beside the generator's own words.
-use crate::helpers::{Edge, got, same};
+use crate::helpers::{got, same};
 use crate::slow::{expect_sizes, expect_ways};
 use rand_core::{Rng, SeedableRng};
 use rand_xoshiro::Xoshiro256PlusPlus;
+use sample_networks::{drawn_edges, drawn_nodes};
 use scheme_figures::drawn_pairs;
-use std::alloc::{AllocError, Global};
+use std::alloc::Global;
 use std::process::Abort;
 
-/// A drawn network of 1 to 9 nodes, and drawn landmarks.
-fn drawn_network(
-    alloc: Global,
-    rng: &mut Xoshiro256PlusPlus,
-) -> Result<(u16, Vec<Edge>, Vec<u16>), AllocError> {
-    let nodes = 1 + (rng.next_u64() % 9) as u16;
-    let mut edges = Vec::new(alloc);
-    let mut at = Vec::new(alloc);
-    for a in 0..nodes {
-        if rng.next_u64() % 3 == 0 {
-            at.push(a)?;
-        }
-        for b in 0..a {
-            let weight = 1 + (rng.next_u64() % 9) as u32;
-            if rng.next_u64() % 10 < 3 {
-                edges.push((a, b, weight))?;
-            }
-        }
-    }
-    Ok((nodes, edges, at))
-}
-
-/// The figures of the next drawn network.
+/// The figures of the next drawn network, of 1 to 9 nodes, and drawn landmarks.
 fn expect_figures(rt: &impl Abort, alloc: Global, rng: &mut Xoshiro256PlusPlus) {
-    let (nodes, edges, at) = got(rt, drawn_network(alloc, rng));
+    let nodes = 1 + (rng.next_u64() % 9) as u16;
+    let edges = got(rt, drawn_edges(alloc, rng, nodes, 9, (3, 10)));
+    let at = got(rt, drawn_nodes(alloc, rng, nodes, (1, 3)));
     expect_sizes(rt, alloc, nodes, &edges, &at);
     expect_ways(rt, alloc, nodes, &edges, &at);
 }

@@ -1,52 +1,24 @@
-// A slow count: distances by relaxing all edges again and again, and the sizes of tables and the lengths of ways by them.
+// A slow count: the sizes of tables and the lengths of ways by plain distances.
 use crate::helpers::{Edge, got, graph_of, measured_at, same, scheme_at};
+use sample_networks::plain_distances;
 use scheme_figures::{
     Measured, Stretches, directory_lengths, entry_counts, landmark_count, stretches_of,
 };
 use std::alloc::{AllocError, Global};
 use std::process::Abort;
 
-/// The most nodes of a network that is counted here.
-const MOST: usize = 46;
+/// The distances from each node, none where no walk leads.
+type Distances = Vec<Vec<Option<u64>>>;
 
-/// The distances of a network by relaxing all edges again and again, none where no walk leads.
-pub(crate) type Distances = [[Option<u64>; MOST]; MOST];
-
-fn relaxed(old: Option<u64>, here: Option<u64>, weight: u32) -> Option<u64> {
-    match (old, here) {
-        (Some(old), Some(here)) => Some(old.min(here.saturating_add(weight as u64))),
-        (None, Some(here)) => Some(here.saturating_add(weight as u64)),
-        (old, None) => old,
+fn distances_of(alloc: Global, nodes: u16, edges: &[Edge]) -> Result<Distances, AllocError> {
+    let mut all = Vec::new(alloc);
+    for from in 0..nodes {
+        all.push(plain_distances(alloc, nodes, edges, from)?)?;
     }
+    Ok(all)
 }
 
-fn row_of(edges: &[Edge], from: u16) -> [Option<u64>; MOST] {
-    let mut row = [None; MOST];
-    if let Some(first) = row.get_mut(from as usize) {
-        *first = Some(0);
-    }
-    for _ in 0..MOST {
-        for (a, b, weight) in edges {
-            for (x, y) in [(*a, *b), (*b, *a)] {
-                let here = row.get(x as usize).copied().flatten();
-                if let Some(there) = row.get_mut(y as usize) {
-                    *there = relaxed(*there, here, *weight);
-                }
-            }
-        }
-    }
-    row
-}
-
-pub(crate) fn distances_of(edges: &[Edge]) -> Distances {
-    let mut all = [[None; MOST]; MOST];
-    for (from, row) in all.iter_mut().enumerate() {
-        *row = row_of(edges, from as u16);
-    }
-    all
-}
-
-pub(crate) fn distance(all: &Distances, x: u16, y: u16) -> Option<u64> {
+fn distance(all: &Distances, x: u16, y: u16) -> Option<u64> {
     match all.get(x as usize) {
         Some(row) => row.get(y as usize).copied().flatten(),
         None => None,
@@ -85,7 +57,7 @@ pub(crate) fn expect_sizes(rt: &impl Abort, alloc: Global, nodes: u16, edges: &[
     let graph = graph_of(rt, alloc, nodes, edges);
     let scheme = scheme_at(rt, alloc, &graph, at);
     same(rt, landmark_count(&scheme), at.len(), "landmarks");
-    let all = distances_of(edges);
+    let all = got(rt, distances_of(alloc, nodes, edges));
     let counted = Counted {
         nodes,
         at,
@@ -125,7 +97,8 @@ pub(crate) fn expect_ways(rt: &impl Abort, alloc: Global, nodes: u16, edges: &[E
     let pairs = got(rt, all_pairs(alloc, nodes));
     let measured = measured_at(rt, alloc, &graph, at, &pairs);
     same(rt, measured.len(), pairs.len(), "a way for each pair");
-    let want = expect_each(rt, &distances_of(edges), &pairs, &measured);
+    let all = got(rt, distances_of(alloc, nodes, edges));
+    let want = expect_each(rt, &all, &pairs, &measured);
     expect_stretches(rt, &got(rt, stretches_of(alloc, &measured)), want);
 }
 

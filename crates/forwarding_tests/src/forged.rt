@@ -1,4 +1,4 @@
-// Each forged packet comes to an end, within as many calls as its network has nodes.
+// Each forged packet comes to an end, within as many calls as its network has nodes; and what its bytes spell is written as they are.
 mod bytes;
 mod judged;
 mod networks;
@@ -8,9 +8,10 @@ use bytes::{MOST_BYTES, drawn, drawn_generation, drawn_size, nodes_of};
 use forwarders::{ByteMove, BytesRefused, Forwarder};
 use judged::{is_right, network_of};
 use networks::{Network, number, posted};
-use packet_bytes::PACKET_SIZE;
+use packet_bytes::{ADDRESS_SIZE, PACKET_SIZE, Wire};
 use rand_core::SeedableRng;
 use rand_xoshiro::Xoshiro256PlusPlus;
+use schemes::{Address, Packet};
 use std::alloc::Global;
 use std::process::Abort;
 use std::sync::Wait;
@@ -84,6 +85,20 @@ fn sent_at_length(
     judged_at(rt, forwarder, networks, from, bytes).err()
 }
 
+/// Whether a packet that the bytes spell is written as they are, and an address that their front spells as that.
+fn is_spelled_again(bytes: &[u8; PACKET_SIZE]) -> bool {
+    let front = &bytes[..ADDRESS_SIZE];
+    let packet = match Packet::from_bytes(bytes) {
+        Ok(packet) => packet.to_bytes() == *bytes,
+        Err(_) => true,
+    };
+    packet
+        && match Address::from_bytes(front) {
+            Ok(address) => address.to_bytes().as_slice() == front,
+            Err(_) => true,
+        }
+}
+
 /// How often ways ended so, by the number of the refusal, 0 for none.
 type Ends = [u32; 10];
 
@@ -110,6 +125,7 @@ fn pass_drawn<R: Wait + Abort>(
         let generation = drawn_generation(rng);
         let from = number(rng, nodes_of(&networks, generation).saturating_add(1));
         let packet = drawn(rng, &mut forwarder, &networks, from, generation);
+        assert!(rt; is_spelled_again(&packet));
         let end = match drawn_size(rng) {
             PACKET_SIZE => passed(rt, &mut forwarder, &networks, from, packet),
             size => {

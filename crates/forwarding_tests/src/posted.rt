@@ -4,10 +4,9 @@ ghost use Rattle.generations.specs.Notices.{notice_of};
 ghost use Rattle.generations.specs.Posts.{with_posted};
 ghost use Rattle.forwarding_tests.specs.InARow.{IsInARow, MayFollow};
 
-use forwarders::{ByteMove, BytesRefused, Forwarder};
+use forwarders::Forwarder;
 use generations::{Board, BoardReader, BoardWriter, Mark, PostRefused, Posting, Verdict, board};
 use node_table::build;
-use packet_bytes::PACKET_SIZE;
 use requests::SESSIONS;
 use sample_networks::{Edge, PATH, graph_of, landmarks_at};
 use schemes::{Parts, Scheme};
@@ -261,26 +260,4 @@ pub(crate) fn post_up_to<R: Wait + Drop>(
     for number in posted..last {
         post_next(rt, alloc, writer, number);
     }
-}
-
-/// The calls that a packet's way took, the node of the last one, and why it was refused there, if it wasn't delivered.
-pub(crate) fn way(
-    rt: &impl Abort,
-    forwarder: &mut Forwarder,
-    from: u16,
-    packet: [u8; PACKET_SIZE],
-) -> (usize, u16, Option<BytesRefused>) {
-    let mut at = from;
-    let mut spelled = packet;
-    for calls in 1..6usize {
-        match forwarder.hop_bytes(at, &spelled) {
-            Ok(ByteMove::Delivered) => return (calls, at, None),
-            Ok(ByteMove::Forward { next, bytes, .. }) => {
-                at = next;
-                spelled = bytes;
-            }
-            Err(refused) => return (calls, at, Some(refused)),
-        }
-    }
-    panic!(rt; "a way without an end");
 }

@@ -1,5 +1,5 @@
-// Lives whose answers are written out, calls that go on where others ended, failures of the device in an opening, a commit and a roll, tickets over crashes, drawn lives, and
-// lives of which an allocation is refused.
+// Calls that go on where others ended, failures of the device in an opening and a roll, drawn lives, and lives of which an allocation is
+// refused. Failures in a commit, and tickets over crashes, are in conformance/crashes.txt.
 use checkpoint::{DEVICE_LEN, OpenRefused};
 use disk_trait::{MemDisk, Plan};
 use event_runs::{Event, Reply};
@@ -15,12 +15,10 @@ use std::process::Abort;
 
 mod again;
 mod drawn;
-mod failures;
 mod helpers;
 mod judge;
 mod memory;
 mod openings;
 mod rolls;
-mod worked;
 
 use helpers::*;

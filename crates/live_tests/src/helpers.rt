@@ -145,22 +145,6 @@ pub(crate) fn run_plain<R: Threads + Wait + Abort + Sync, O: Write, E: Write>(
     run(Env { rt, alloc }, disk, setup, input, &OpenGate, out, err)
 }
 
-/// Runs a service with all lines at once, sees how it ended and all that is printed and told, and gives the disk back.
-pub(crate) fn expect_run<R: Threads + Wait + Abort + Sync>(
-    rt: &R,
-    alloc: Global,
-    disk: MemDisk,
-    setup: &Setup,
-    input: &[u8],
-    want: (Served, &str, &str),
-) -> MemDisk {
-    let (mut out, mut err) = (Vec::new(alloc), Vec::new(alloc));
-    let (served, disk) = run_plain(rt, alloc, disk, setup, input, &mut out, &mut err);
-    let found = (served, text_of(rt, &out), text_of(rt, &err));
-    same(rt, found, want, "the service");
-    got(rt, disk.ok_or("no thread"))
-}
-
 /// A fresh device.
 pub(crate) fn fresh(rt: &impl Abort, alloc: Global, nodes: u16) -> MemDisk {
     got(rt, stand_ins::formatted(alloc, nodes))
@@ -169,12 +153,6 @@ pub(crate) fn fresh(rt: &impl Abort, alloc: Global, nodes: u16) -> MemDisk {
 /// The store of a disk.
 pub(crate) fn reopened<D: Disk + Drop>(rt: &impl Abort, alloc: Global, disk: D) -> Store<D> {
     got(rt, stand_ins::opened(alloc, disk))
-}
-
-/// Sees the count of a store, its edges, and the last ticket of its first session.
-pub(crate) fn holds<D: Disk>(rt: &impl Abort, store: &Store<D>, want: (u64, usize, u64)) {
-    let found = (store.count(), store.graph().edges(), store.resume(0));
-    same(rt, found, want, "count, edges, last ticket");
 }
 
 /// Sees that the first of so many edges of the path are there, as many as the count says, which it gives.

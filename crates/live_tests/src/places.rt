@@ -24,12 +24,11 @@ impl TableFiles for NoFiles {
 /// Files in memory.
 pub(crate) type Kept = Arc<Mutex<Vec<TableFile>>, Global>;
 
-/// A place in memory, whose files others see. There is room for so many, and the next one is refused.
+/// A place in memory, whose files others see.
 #[derive(Drop)]
 pub(crate) struct KeptFiles<'a, R> {
     pub(crate) rt: &'a R,
     pub(crate) files: Kept,
-    pub(crate) room: usize,
     // For contracts alone.
     pub(crate) put: Log<TableFile>,
 }
@@ -42,11 +41,7 @@ impl<R: Wait> TableFiles for KeptFiles<'_, R> {
 
     fn put(&mut self, file: TableFile) -> Result<(), Fault> {
         let put = self.put.with_entry(&file);
-        let mut files = self.files.lock(self.rt);
-        if files.len() >= self.room {
-            return Err(Fault::TableFile);
-        }
-        files.push(file)?;
+        self.files.lock(self.rt).push(file)?;
         self.put = put;
         Ok(())
     }

@@ -1,6 +1,5 @@
-// Edits beside builds: a burst, one by one, and beside a build that is held.
+// Edits beside a build that is held. Those beside builds that aren't are in conformance/live_waits.txt.
 use crate::helpers::{Setup, count_lines, fresh, got, run, same, text_of};
-use crate::talk::{Row, Talked, talk_on};
 use live_service::{Env, Served};
 use service_threads::Gate;
 use stand_ins::comes;
@@ -9,10 +8,10 @@ use std::io::{self, Write};
 use std::process::Abort;
 use std::sync::atomic::{AtomicBool, AtomicU64, Ordering};
 
-// So many edits of each of 24 sessions, all at once: each has an edge of its own.
-fn burst(rt: &impl Abort, alloc: Global, turns: u64) -> String {
+// A hundred edits of each of 24 sessions, all at once: each session has an edge of its own.
+fn burst(rt: &impl Abort, alloc: Global) -> String {
     let mut text = String::new(alloc);
-    for turn in 1..turns.saturating_add(1) {
+    for turn in 1..101u64 {
         for session in 1..25u64 {
             let (op, node) = (
                 if turn == 1 { "add" } else { "set" },
@@ -23,70 +22,6 @@ fn burst(rt: &impl Abort, alloc: Global, turns: u64) -> String {
     }
     got(rt, text.push_str("?"));
     text
-}
-
-// Edits that come while the tables of a larger network are built are all accepted, and `wait` tells the generation that has all of them.
-// That they wait for no build is seen where builds are held: below, and in `committer_tests`.
-#[test]
-fn edits_beside_builds(rt: HostRuntime) {
-    let alloc = rt.alloc();
-    let setup = Setup {
-        words: "at:2",
-        numbers: (25, 2, 64),
-        rounds: 1,
-    };
-    let burst = burst(&rt, alloc, 4);
-    let rows: [Row<'_>; 2] = [(burst.as_bytes(), ""), (b"wait\nstate", "")];
-    let disk = fresh(&rt, alloc, 1_000);
-    let Talked {
-        served,
-        disk: _,
-        printed,
-        told,
-    } = talk_on(&rt, alloc, disk, &setup, &rows);
-    let told = text_of(&rt, &told);
-    same(&rt, (served, told), (Served::Printed, ""), "the end");
-    let answers = text_of(&rt, &printed).split('\n');
-    let accepted = answers.filter(|line| line.contains("accepted")).count();
-    same(&rt, accepted, 96, "accepted edits");
-    let mut lines = text_of(&rt, &printed).split('\n').skip(97);
-    same(&rt, lines.next(), Some("generation=96"), "all are in it");
-    let stand = Some("count=96 generation=96 queue=0");
-    same(&rt, lines.next(), stand, "how it stands");
-}
-
-// With a generation behind each of four edits the address is gone.
-#[test]
-fn generations_of_single_edits(rt: HostRuntime) {
-    let alloc = rt.alloc();
-    let setup = Setup {
-        words: "at:2",
-        numbers: (25, 2, 64),
-        rounds: 1,
-    };
-    let rows: [Row<'_>; 6] = [
-        (
-            b"edit 0 - add:0:1:1 add:1:2:1 add:2:3:1 add:3:4:1\nwait",
-            "",
-        ),
-        (b"edit 0 - set:0:1:2\nwait", ""),
-        (b"edit 0 - set:0:1:3\nwait", ""),
-        (b"edit 0 - set:0:1:4\nwait", ""),
-        (b"edit 0 - set:0:1:5\nwait", ""),
-        (b"launch 0 {15}100040100020004010001{48}", ""),
-    ];
-    let disk = fresh(&rt, alloc, 41);
-    let Talked {
-        served,
-        disk: _,
-        printed,
-        told,
-    } = talk_on(&rt, alloc, disk, &setup, &rows);
-    let told = text_of(&rt, &told);
-    same(&rt, (served, told), (Served::Printed, ""), "the end");
-    let mut lines = text_of(&rt, &printed).split('\n').skip(9);
-    same(&rt, lines.next(), Some("generation=5"), "the fifth");
-    same(&rt, lines.next(), Some("generation gone"), "the address");
 }
 
 /// What an output tells a gate.
@@ -148,7 +83,7 @@ fn edits_before_the_first_generation(rt: HostRuntime) {
         lines: AtomicU64::new(0),
         is_late: AtomicBool::new(false),
     };
-    let mut input = burst(&rt, alloc, 100);
+    let mut input = burst(&rt, alloc);
     got(&rt, input.push_str("\nroute 2 2\nwait\nstate\n"));
     let gate = HeldBuilds(&signs);
     let mut out = Counted {

@@ -1,12 +1,12 @@
-// `tables FOLDER`, with files in memory, which are compared with the tables of schemes that are built here.
+// `tables FOLDER` while edits go on, with files in memory, which are compared with the tables of a scheme that is built here. What is put
+// between edits, and where a file can't be made, is in conformance/table_bytes.txt and live_tables.txt.
 ghost use Rattle.std.specs.Prelude.{map};
 
 use crate::helpers::{Setup, fresh, got, run_at, same, text_of};
 use crate::places::{Kept, KeptFiles};
-use crate::talk::{Row, expect_talk_at};
 use command_output::Fault;
 use disk_trait::Log;
-use graph_edits::{Change, Graph, Op};
+use graph_edits::Graph;
 use live_service::{Env, Served};
 use router_table::RouterTable;
 use scheme_builds::scheme_of;
@@ -22,32 +22,14 @@ use std::thread;
 use std::thread::Threads;
 use table_files::{TableFile, TableFiles};
 
-const SETUP: Setup = Setup {
-    words: "at:2",
-    numbers: (2, 2, 4),
-    rounds: 1,
-};
-
-// The edges of the path 0, 1, 2, 3, 4.
-const PATH: [Op; 4] = [
-    Op::Add(0, 1, 1),
-    Op::Add(1, 2, 1),
-    Op::Add(2, 3, 1),
-    Op::Add(3, 4, 1),
-];
-
-// The scheme of the first so many edges of the path, with the landmark 2.
-fn scheme_after(rt: &impl Abort, alloc: Global, edges: usize, generation: u64) -> Scheme {
-    let mut graph = got(rt, Graph::empty(alloc, 5));
-    if edges > 0 {
-        let change = got(rt, Change::new(PATH.get(..edges).unwrap_or(&[])));
-        got(rt, graph.apply(&change));
-    }
+// The scheme of five nodes without edges, with the landmark 2.
+fn scheme_of_none(rt: &impl Abort, alloc: Global) -> Scheme {
+    let graph = got(rt, Graph::empty(alloc, 5));
     let mut words = Vec::new(alloc);
     for node in 0..5u16 {
         got(rt, words.push(if node == 2 { 0u64 } else { u64::MAX }));
     }
-    got(rt, scheme_of(alloc, &graph, &words, generation, &alloc))
+    got(rt, scheme_of(alloc, &graph, &words, 0, &alloc))
 }
 
 // The bytes of a node's table.
@@ -56,19 +38,8 @@ fn table_of(rt: &impl Abort, alloc: Global, scheme: &Scheme, node: u16) -> Vec<u
     got(rt, table.write(alloc))
 }
 
-// The line that tells of the tables of all nodes.
-fn line_of(rt: &impl Abort, alloc: Global, scheme: &Scheme, generation: u64) -> String {
-    let (mut bytes, mut greatest) = (0usize, 0usize);
-    for node in 0..5u16 {
-        let len = table_of(rt, alloc, scheme, node).len();
-        bytes = bytes.wrapping_add(len);
-        greatest = greatest.max(len);
-    }
-    got(
-        rt,
-        format!(in alloc; "generation={generation} tables=5 bytes={bytes} greatest={greatest}"),
-    )
-}
+// The line that tells of the tables of all nodes: 118 bytes each, and 113 of the landmark, by docs/FORMATS.md.
+const TABLES: &str = "generation=0 tables=5 bytes=585 greatest=118";
 
 // Sees that files are those of the tables that a scheme has of the first nodes.
 fn expect_files(
@@ -91,94 +62,17 @@ fn expect_files(
     }
 }
 
-// The files from this one on, at most so many.
-fn part_of(files: &[TableFile], from: usize, count: usize) -> &[TableFile] {
-    let rest = files.get(from..).unwrap_or(&[]);
-    rest.get(..count).unwrap_or(rest)
-}
-
 // No files so far.
 fn no_files(rt: &impl Abort, alloc: Global) -> Kept {
     got(rt, Arc::new(alloc, Mutex::new(Vec::new(alloc))))
 }
 
-// A place with room for so many files, which are kept here.
-fn place<'a, R: Abort>(rt: &'a R, files: &Kept, room: usize) -> KeptFiles<'a, R> {
+// A place whose files are kept here.
+fn place<'a, R: Abort>(rt: &'a R, files: &Kept) -> KeptFiles<'a, R> {
     KeptFiles {
         rt,
         files: got(rt, Arc::try_clone(files)),
-        room,
         put: Log::new(),
-    }
-}
-
-// Gives rows to a service on a fresh device of five nodes, with room for so many files, and answers those that were put.
-fn files_of<R: Threads + Wait + Abort + Sync>(
-    rt: &R,
-    alloc: Global,
-    rows: &[Row<'_>],
-    room: usize,
-) -> Kept {
-    let kept = no_files(rt, alloc);
-    let tables = place(rt, &kept, room);
-    let _disk = expect_talk_at(rt, alloc, fresh(rt, alloc, 5), &SETUP, rows, tables);
-    kept
-}
-
-// Each time the tables are those of the network that there is then.
-#[test]
-fn tables_between_edits(rt: HostRuntime) {
-    let alloc = rt.alloc();
-    let none = scheme_after(&rt, alloc, 0, 0);
-    let half = scheme_after(&rt, alloc, 2, 1);
-    let whole = scheme_after(&rt, alloc, 4, 2);
-    let first = line_of(&rt, alloc, &none, 0);
-    let second = line_of(&rt, alloc, &half, 1);
-    let third = line_of(&rt, alloc, &whole, 2);
-    let rows: [Row<'_>; 6] = [
-        (b"tables none", first.as_str()),
-        (
-            b"edit 0 - add:0:1:1 add:1:2:1\nwait",
-            "0 1 accepted count=1\ngeneration=1",
-        ),
-        (b"tables /half", second.as_str()),
-        (
-            b"edit 1 - add:2:3:1 add:3:4:1\nwait",
-            "1 1 accepted count=2\ngeneration=2",
-        ),
-        (b"tables whole/of/it", third.as_str()),
-        (b"route 0 4", "generation=2 route 0 1 2 3 4 length 4"),
-    ];
-    let kept = files_of(&rt, alloc, &rows, 99);
-    let files = kept.lock(&rt);
-    same(&rt, files.len(), 15, "files");
-    expect_files(&rt, alloc, part_of(&files, 0, 5), "none", &none, 5);
-    expect_files(&rt, alloc, part_of(&files, 5, 5), "/half", &half, 5);
-    expect_files(&rt, alloc, part_of(&files, 10, 5), "whole/of/it", &whole, 5);
-}
-
-// The files before the one that is refused stay, and the service goes on.
-#[test]
-fn files_that_are_refused(rt: HostRuntime) {
-    let alloc = rt.alloc();
-    let whole = scheme_after(&rt, alloc, 4, 1);
-    let line = line_of(&rt, alloc, &whole, 1);
-    let refused = "table file cannot be written";
-    for room in 0..6usize {
-        let first = if room < 5 { refused } else { line.as_str() };
-        let rows: [Row<'_>; 5] = [
-            (
-                b"edit 0 - add:0:1:1 add:1:2:1 add:2:3:1 add:3:4:1\nwait",
-                "0 1 accepted count=1\ngeneration=1",
-            ),
-            (b"tables out", first),
-            (b"route 0 4", "generation=1 route 0 1 2 3 4 length 4"),
-            (b"tables more", refused),
-            (b"edit 0 - set:0:1:2", "0 2 accepted count=2"),
-        ];
-        let kept = files_of(&rt, alloc, &rows, room);
-        let files = kept.lock(&rt);
-        expect_files(&rt, alloc, &files, "out", &whole, room);
     }
 }
 
@@ -287,7 +181,7 @@ impl Pressing {
 impl Read for Pressing {
     fn read(&mut self, buf: &mut [u8]) -> io::Result<usize> {
         let line: &[u8] = if self.lines == 0 {
-            b"tables out\n"
+            b"tables /out\n"
         } else {
             self.signs.awaits(&self.signs.files, 1);
             self.next_line()
@@ -317,7 +211,7 @@ fn expect_held<R: Threads + Wait + Abort + Sync>(
     let signs = got(rt, Arc::new(alloc, Signs::new()));
     let kept = no_files(rt, alloc);
     let tables = HeldFiles {
-        place: place(rt, &kept, 99),
+        place: place(rt, &kept),
         signs: got(rt, Arc::try_clone(&signs)),
         generation: edits as u64,
     };
@@ -358,16 +252,15 @@ fn expect_held<R: Threads + Wait + Abort + Sync>(
         let accepted = got(rt, format!(in alloc; "0 {number} accepted count={number}"));
         same(rt, printed.next(), Some(accepted.as_str()), "an edit");
     }
-    let scheme = scheme_after(rt, alloc, 0, 0);
-    expect_files(rt, alloc, &kept.lock(rt), "out", &scheme, count);
+    let scheme = scheme_of_none(rt, alloc);
+    expect_files(rt, alloc, &kept.lock(rt), "/out", &scheme, count);
 }
 
 // The shelf has four generations: with the third edit the first generation is the oldest of them, and with the fourth it is gone.
 #[test]
 fn tables_while_edits_go_on(rt: HostRuntime) {
     let alloc = rt.alloc();
-    let line = line_of(&rt, alloc, &scheme_after(&rt, alloc, 0, 0), 0);
-    expect_held(&rt, alloc, 1, line.as_str(), 5);
-    expect_held(&rt, alloc, 3, line.as_str(), 5);
+    expect_held(&rt, alloc, 1, TABLES, 5);
+    expect_held(&rt, alloc, 3, TABLES, 5);
     expect_held(&rt, alloc, 4, "generation gone", 1);
 }

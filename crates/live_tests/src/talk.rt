@@ -1,7 +1,6 @@
 // Conversations: lines are given once all before them are answered.
-use crate::helpers::{Setup, count_lines, got, run_at, same, text_of};
-use crate::places::NoFiles;
-use disk_trait::{Disk, MemDisk};
+use crate::helpers::{Setup, count_lines, got, run, same};
+use disk_trait::MemDisk;
 use live_service::{Env, Served};
 use service_threads::OpenGate;
 use std::alloc::{AllocError, Global};
@@ -9,9 +8,8 @@ use std::io::{self, BufReader, Read, Write};
 use std::process::Abort;
 use std::sync::{Arc, Condvar, Mutex, Wait};
 use std::thread::Threads;
-use table_files::TableFiles;
 
-/// A line, or several with a line feed between each two, and as many answers. In both `{N}` stands for N zeros.
+/// A line and its answer.
 pub(crate) type Row<'a> = (&'a [u8], &'a str);
 
 /// What came out so far.
@@ -80,44 +78,21 @@ impl Talk {
     }
 }
 
-// Writes so many zeros.
-fn put_zeros(bytes: &mut Vec<u8>, count: usize) -> Result<(), AllocError> {
-    for _ in 0..count {
-        bytes.push(b'0')?;
-    }
-    Ok(())
-}
-
-// Writes a text whose `{N}` are N zeros.
-fn put_text(bytes: &mut Vec<u8>, text: &[u8]) -> Result<(), AllocError> {
-    let mut number = None;
-    for byte in text {
-        match number {
-            None if *byte == b'{' => number = Some(0usize),
-            None => bytes.push(*byte)?,
-            Some(count) if *byte == b'}' => {
-                put_zeros(bytes, count)?;
-                number = None;
-            }
-            Some(count) => {
-                let digit = byte.wrapping_sub(b'0') as usize;
-                number = Some(count.wrapping_mul(10).wrapping_add(digit));
-            }
-        }
-    }
+// Writes a line.
+fn put_line(bytes: &mut Vec<u8>, line: &[u8]) -> Result<(), AllocError> {
+    bytes.extend_from_slice(line)?;
     bytes.push(b'\n')?;
     Ok(())
 }
 
-/// An input that gives the lines of a row once the answers to all before it were flushed. Where a fault is told it ends.
+/// An input that gives the line of a row once the answers to all before it were flushed. Where a fault is told it ends.
 #[derive(Drop)]
 pub(crate) struct PacedInput<'a, R: Wait> {
     rt: &'a R,
     talk: Arc<Talk, Global>,
     rows: &'a [Row<'a>],
-    // How many rows and lines were given, and what is left of the last row.
+    // How many rows were given, and what is left of the last one.
     row: usize,
-    lines: usize,
     text: Vec<u8>,
     at: usize,
 }
@@ -125,17 +100,16 @@ pub(crate) struct PacedInput<'a, R: Wait> {
 impl<R: Wait> PacedInput<'_, R> {
     // Makes the next row's text. False where there is none.
     fn turn(&mut self) -> Result<bool, AllocError> {
-        let Some((text, _)) = self.rows.get(self.row) else {
+        let Some((line, _)) = self.rows.get(self.row) else {
             return Ok(false);
         };
-        if !self.talk.await_lines(self.rt, self.lines) {
+        if !self.talk.await_lines(self.rt, self.row) {
             return Ok(false);
         }
         self.text.clear();
         self.at = 0;
-        put_text(&mut self.text, text)?;
+        put_line(&mut self.text, line)?;
         self.row = self.row.wrapping_add(1);
-        self.lines = self.lines.wrapping_add(count_lines(&self.text));
         Ok(true)
     }
 }
@@ -196,26 +170,27 @@ impl<R: Wait> Write for Told<'_, R> {
 
 /// How a conversation ended: what was flushed, and what was told.
 #[derive(Drop)]
-pub(crate) struct Talked<D> {
+pub(crate) struct Talked {
     pub(crate) served: Served,
-    pub(crate) disk: Option<D>,
+    pub(crate) disk: Option<MemDisk>,
     pub(crate) printed: Vec<u8>,
     pub(crate) told: Vec<u8>,
 }
 
-/// Gives rows to a service on a disk, with a place for tables.
-pub(crate) fn talk_at<
-    D: Disk + Drop + Send,
-    T: TableFiles + Drop + Send,
-    R: Threads + Wait + Abort + Sync,
->(rt: &R, alloc: Global, disk: D, setup: &Setup, rows: &[Row<'_>], tables: T) -> Talked<D> {
+/// Gives rows to a service on a disk in memory.
+pub(crate) fn talk_on<R: Threads + Wait + Abort + Sync>(
+    rt: &R,
+    alloc: Global,
+    disk: MemDisk,
+    setup: &Setup,
+    rows: &[Row<'_>],
+) -> Talked {
     let talk = got(rt, Arc::new(alloc, Talk::new(alloc)));
     let paced = PacedInput {
         rt,
         talk: got(rt, Arc::try_clone(&talk)),
         rows,
         row: 0,
-        lines: 0,
         text: Vec::new(alloc),
         at: 0,
     };
@@ -230,12 +205,12 @@ pub(crate) fn talk_at<
         talk: got(rt, Arc::try_clone(&talk)),
         text: Vec::new(alloc),
     };
-    let (served, disk) = run_at(
+    let (served, disk) = run(
         Env { rt, alloc },
         disk,
         setup,
         input,
-        (&OpenGate, tables),
+        &OpenGate,
         &mut out,
         &mut err,
     );
@@ -248,75 +223,11 @@ pub(crate) fn talk_at<
     }
 }
 
-/// Gives rows to a service on a disk.
-pub(crate) fn talk_with<D: Disk + Drop + Send, R: Threads + Wait + Abort + Sync>(
-    rt: &R,
-    alloc: Global,
-    disk: D,
-    setup: &Setup,
-    rows: &[Row<'_>],
-) -> Talked<D> {
-    talk_at(rt, alloc, disk, setup, rows, NoFiles)
-}
-
-/// Gives rows to a service on a disk in memory.
-pub(crate) fn talk_on<R: Threads + Wait + Abort + Sync>(
-    rt: &R,
-    alloc: Global,
-    disk: MemDisk,
-    setup: &Setup,
-    rows: &[Row<'_>],
-) -> Talked<MemDisk> {
-    talk_with(rt, alloc, disk, setup, rows)
-}
-
 /// The answers of rows, a line each.
 pub(crate) fn answers_of(rt: &impl Abort, alloc: Global, rows: &[Row<'_>]) -> Vec<u8> {
     let mut text = Vec::new(alloc);
     for (_, answer) in rows {
-        got(rt, put_text(&mut text, answer.as_bytes()));
+        got(rt, put_line(&mut text, answer.as_bytes()));
     }
     text
-}
-
-// Sees that the lines are the answers of the rows, in their order.
-fn expect_answers(rt: &impl Abort, alloc: Global, printed: &[u8], rows: &[Row<'_>]) {
-    let wanted = answers_of(rt, alloc, rows);
-    let (printed, wanted) = (text_of(rt, printed), text_of(rt, &wanted));
-    for (found, want) in printed.split('\n').zip(wanted.split('\n')) {
-        same(rt, found, want, "an answer");
-    }
-    same(rt, printed.len(), wanted.len(), "the length of all answers");
-}
-
-/// The same with a place for tables.
-pub(crate) fn expect_talk_at<T: TableFiles + Drop + Send, R: Threads + Wait + Abort + Sync>(
-    rt: &R,
-    alloc: Global,
-    disk: MemDisk,
-    setup: &Setup,
-    rows: &[Row<'_>],
-    tables: T,
-) -> MemDisk {
-    let talked = talk_at(rt, alloc, disk, setup, rows, tables);
-    expect_talked(rt, alloc, talked, rows)
-}
-
-// Sees that rows have their answers and that the service ended with its input, and gives the disk back.
-fn expect_talked(
-    rt: &impl Abort,
-    alloc: Global,
-    talked: Talked<MemDisk>,
-    rows: &[Row<'_>],
-) -> MemDisk {
-    let Talked {
-        served,
-        disk,
-        printed,
-        told,
-    } = talked;
-    expect_answers(rt, alloc, &printed, rows);
-    let end = (served, text_of(rt, &told));
-    same(rt, end, (Served::Printed, ""), "the end");
-    got(rt, disk.ok_or("no thread"))
 }

@@ -1,6 +1,6 @@
 // Names and numbers, by hand.
 use crate::helpers::{BY_WORDS, got, told};
-use edge_lists::{Edge, Names, by_numbers, call_numbers, edge_list, read_rows};
+use edge_lists::{Names, by_numbers, call_numbers, edge_list, read_rows};
 
 #[test]
 fn names_up_to_one_that_is_too_many(rt: HostRuntime) {
@@ -79,27 +79,4 @@ fn names_that_no_line_of_words_may_have(rt: HostRuntime) {
         );
         assert!(rt; text.is_none(), "{name}");
     }
-}
-
-#[test]
-fn a_list_is_written_with_names(rt: HostRuntime) {
-    let edges = [
-        Edge {
-            line: 1,
-            a: 0,
-            b: 1,
-            weight: 5,
-        },
-        Edge {
-            line: 2,
-            a: 2,
-            b: 0,
-            weight: 6,
-        },
-    ];
-    let text = got(&rt, edge_list(rt.alloc(), 3, &edges, &["Bern", "Thun"]));
-    assert_eq!(rt;
-        text.as_deref(),
-        Some("# nodes=3\n# Bern\n# Thun\n# 2\nBern Thun 5\n2 Bern 6\n")
-    );
 }

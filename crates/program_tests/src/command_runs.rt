@@ -1,7 +1,6 @@
-// Each command, on real files. Expected texts and bytes are written out from the tables of docs/FORMATS.md.
+// Commands on real files whose output fails.
 use crate::helpers::{
-    device_in, expect_run, expect_script, got, make_folder, remove_folder, run_once, same, text_of,
-    words_of,
+    device_in, expect_run, got, make_folder, remove_folder, run_once, same, text_of, words_of,
 };
 use commands::run_words;
 use stand_ins::NarrowWriter;
@@ -12,16 +11,6 @@ use std::rt::{Clock, Files};
 use std::sync::Wait;
 use std::thread::Threads;
 use table_files::TablePlaces;
-
-const READABLE: &str = "show @ -> 1 tznode: not formatted
-edit @ add:0:1:1 -> 1 tznode: device file cannot be used
-resume @ 0 -> 1 tznode: not formatted";
-
-// A program that runs can be read, and can't be written, whoever runs it.
-#[test]
-fn paths_that_are_no_device(rt: HostRuntime) {
-    expect_script(&rt, "/proc/self/exe", READABLE);
-}
 
 fn expect_output_fault<
     'a,

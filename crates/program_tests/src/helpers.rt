@@ -10,6 +10,10 @@ use std::thread::Threads;
 use std::{env, fs, process, str};
 use table_files::TablePlaces;
 
+/// The script that makes a device of five nodes with an edge.
+pub(crate) const MADE: &str = "format @ 5 -> 0 formatted nodes=5
+edit @ add:0:1:1 -> 0 accepted count=1";
+
 /// The status, what is printed and what is told.
 pub(crate) type Answer<'a> = (u8, &'a str, &'a str);
 

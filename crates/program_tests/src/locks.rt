@@ -1,7 +1,7 @@
 // Devices that another program holds, and what reading asks of a file. A lock is that of an open file, so one test holds what it runs a
 // command against.
 use crate::helpers::{
-    bytes_of, device_in, expect_bytes, expect_run, expect_script, got, make_folder, path_in,
+    MADE, bytes_of, device_in, expect_bytes, expect_run, expect_script, got, make_folder, path_in,
     remove_folder,
 };
 use device_files::{DeviceFile, FileRefused};
@@ -10,9 +10,6 @@ use std::fs::{File, Permissions};
 use std::os::unix::fs::PermissionsExt;
 use std::process::Abort;
 use std::rt::Files;
-
-const MADE: &str = "format @ 5 -> 0 formatted nodes=5
-edit @ add:0:1:1 -> 0 accepted count=1";
 
 // Where the device is held alone, each command says so.
 const IN_USE: &str = "show @ -> 1 tznode: device in use

@@ -1,6 +1,7 @@
 // The command `serve`, where its input can't be read.
 use crate::helpers::{
-    Answer, bytes_of, device_in, expect_answer, expect_bytes, got, make_folder, remove_folder,
+    Answer, MADE, bytes_of, device_in, expect_answer, expect_bytes, expect_script, got,
+    make_folder, remove_folder,
 };
 use std::fs::File;
 use std::io::{self, ErrorKind, Read};
@@ -18,25 +19,6 @@ const USAGE: Answer<'static> = (2, "", "tznode: usage\n");
 const WORDS: Answer<'static> = (2, "", "tznode: words not understood\n");
 
 const INPUT: Answer<'static> = (1, "", "tznode: input or output failed\n");
-
-// Runs the program for each row, one after another.
-fn expect_rows<
-    'a,
-    R: Files<File = File> + AllocGlobal + Abort + Clock + Threads + Wait + Sync + TablePlaces<'a>,
->(rt: &'a R, d: &str, rows: &[Row<'_>])
-where
-    R::Dir: Send,
-{
-    for (line, script, answer) in rows {
-        let mut script: &[u8] = *script;
-        expect_answer(rt, d, line, &mut script, *answer);
-    }
-}
-
-const ONE_EDGE: [Row<'static>; 2] = [
-    ("format @ 5", b"", (0, "formatted nodes=5\n", "")),
-    ("edit @ add:0:1:1", b"", (0, "accepted count=1\n", "")),
-];
 
 /// A reader that fails.
 #[derive(Drop)]
@@ -80,7 +62,7 @@ fn services_whose_script_cannot_be_read(rt: HostRuntime) {
     let folder = got(rt, make_folder(rt, "services_whose_script_cannot_be_read"));
     let path = device_in(rt, folder.as_str());
     let d = path.as_str();
-    expect_rows(rt, d, &ONE_EDGE);
+    expect_script(rt, d, MADE);
     let before = bytes_of(rt, d);
     expect_broken(rt, d, &BROKEN_INPUTS);
     expect_bytes(rt, d, &before);

@@ -1,7 +1,8 @@
-// Lines that name a file, and answers that no line of a test is given. All others are in conformance/routers.txt.
+// A shelf alone, and answers that no line of a test is given. All others are in conformance/routers.txt, and files by their names in
+// router_tables.txt.
 use crate::helpers::{expect, got};
 use crate::path::router;
-use router_lines::{Answer, LoadRefused, file_in};
+use router_lines::{Answer, LoadRefused};
 use router_table::ReadRefused;
 use std::alloc::Global;
 use std::process::Abort;
@@ -13,25 +14,6 @@ fn has_no_file(rt: HostRuntime) {
     let shelf = router(&rt, alloc);
     for line in ["load ", "load tables"] {
         expect(&rt, alloc, &shelf, line, "not understood");
-    }
-}
-
-/// The file that a line names.
-#[test]
-fn finds_the_file_of_a_line(rt: HostRuntime) {
-    for (line, want) in [
-        (b"load a.table".as_slice(), Some(b"a.table".as_slice())),
-        (b"load  a b ".as_slice(), Some(b" a b ".as_slice())),
-        (b"load \xff".as_slice(), Some(b"\xff".as_slice())),
-        (b"load ".as_slice(), Some(b"".as_slice())),
-        (b"load".as_slice(), None),
-        (b"Load a".as_slice(), None),
-        (b"loads a".as_slice(), None),
-        (b" load a".as_slice(), None),
-        (b"tables".as_slice(), None),
-        (b"".as_slice(), None),
-    ] {
-        assert!(&rt; file_in(line) == want, "a file");
     }
 }
 

@@ -1,7 +1,7 @@
 // The worked graphs, and what the tests share: each call is made again where memory was refused.
 use graph_edits::Graph;
 use landmarks::Landmarks;
-pub(crate) use sample_networks::{Edge, PATH, Way, ends_of};
+pub(crate) use sample_networks::{Edge, PATH};
 use schemes::Trail;
 use single_route::{NoTrail, Routes};
 use std::alloc::Global;

@@ -1,6 +1,6 @@
 //! Tests of single routes.
 //!
-//! There is nothing here but tests: ways that were found by hand, what is refused, drawn graphs in which each route is compared
+//! There is nothing here but tests: routes one after another, drawn graphs in which each route is compared
 //! with the trail that the built scheme carries a packet over, the longest path, and routes made again where memory was refused.
 #![tactic(auto)]
 

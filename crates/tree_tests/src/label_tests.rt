@@ -1,4 +1,4 @@
-// Worked trees, and drawn ones against paths found by climbing parents.
+// Worked trees, and drawn ones against paths found by climbing parents. The numbers of the tree of five are bytes in conformance/tables.txt.
 use crate::helpers::{STACK_LEN, got, listed, same, tree_of};
 use crate::members::{FIVE, below, in_pairs, on_path, root};
 use arrayvec::ArrayVec;
@@ -41,24 +41,6 @@ fn label(first: u16, ports: &[u16]) -> Label {
     Label::new(first, lights)
 }
 
-/// Node, numbers, parent port, heavy port and light ports of a member.
-type Row<'a> = (
-    u16,
-    (u16, u16, u16, u8),
-    Option<u16>,
-    Option<u16>,
-    &'a [u16],
-);
-
-/// The members of the tree of five in preorder.
-const ROWS: [Row<'static>; 5] = [
-    (2, (0, 4, 2, 0), None, Some(0), &[]),
-    (1, (1, 2, 2, 0), Some(1), Some(0), &[]),
-    (0, (2, 2, 2, 0), Some(0), None, &[]),
-    (3, (3, 4, 4, 1), Some(0), Some(1), &[1]),
-    (4, (4, 4, 4, 1), Some(0), None, &[1]),
-];
-
 /// What a step answers, and the number of its refusal.
 const NUMBERS: [(TreeStep, Option<u8>); 4] = [
     (TreeStep::Arrived, None),
@@ -71,21 +53,6 @@ const NUMBERS: [(TreeStep, Option<u8>); 4] = [
 fn refusals_have_their_numbers(rt: HostRuntime) {
     for (step, number) in &NUMBERS {
         same(&rt, step.refusal(), *number, "a refusal");
-    }
-}
-
-#[test]
-fn numbers_of_five_nodes(rt: HostRuntime) {
-    let alloc = rt.alloc();
-    let rt = &rt;
-    let all = numbered(rt, alloc, &FIVE);
-    same(rt, all.len(), 5, "the members");
-    for (found, row) in all.iter().zip(ROWS.iter()) {
-        let (node, (first, last, heavy_last, depth), up, heavy, lights) = *row;
-        let record = Record::new(first, last, heavy_last, depth, up, heavy);
-        let numbers = (found.node, Some(found.tree_record));
-        same(rt, numbers, (node, record), "a record");
-        same(rt, &found.label, &label(first, lights), "a label");
     }
 }
 

@@ -4,7 +4,7 @@ use bumpalo::Bump;
 use graph_edits::Graph;
 use rand_core::{Rng, SeedableRng};
 use rand_xoshiro::Xoshiro256PlusPlus;
-use sample_networks::plain_distances;
+use sample_networks::{drawn_edges, drawn_nodes, plain_distances};
 use schemes::{CarryRefused, Scheme, Trail};
 use std::alloc::Global;
 use std::process::Abort;
@@ -41,19 +41,8 @@ pub(crate) fn is_right(trail: &Trail, edges: &[Edge], from: u16, to: u16, least:
 /// route right by the plain distances.
 fn is_routed(rt: &impl Abort, alloc: Global, rng: &mut Xoshiro256PlusPlus) -> bool {
     let nodes = 1 + (rng.next_u64() % 9) as u16;
-    let mut edges: Vec<Edge> = Vec::new(alloc);
-    let mut at = Vec::new(alloc);
-    for a in 0..nodes {
-        if rng.next_u64() % 3 == 0 {
-            got(rt, at.push(a));
-        }
-        for b in 0..a {
-            let weight = 1 + (rng.next_u64() % 9) as u32;
-            if rng.next_u64() % 10 < 3 {
-                got(rt, edges.push((a, b, weight)));
-            }
-        }
-    }
+    let edges = got(rt, drawn_edges(alloc, rng, nodes, 9, (3, 10)));
+    let at = got(rt, drawn_nodes(alloc, rng, nodes, (1, 3)));
     let graph = graph_of(rt, alloc, nodes, &edges);
     let scheme = same_under_each(rt, alloc, &graph, &at);
     for from in 0..nodes {

@@ -5,7 +5,7 @@ use heavy_labels::{Label, MOST_LIGHTS, Record};
 use linked_list_allocator::LocalHeap;
 use node_table::build;
 use sample_networks::landmarks_at;
-pub(crate) use sample_networks::{Edge, PAIRS, PATH, TRIANGLE, Way, ends_of};
+pub(crate) use sample_networks::{Edge, PATH, TRIANGLE};
 use scheme_builds::scheme_of;
 use schemes::{CarryRefused, Entry, Scheme, Trail};
 use std::alloc::{AllocError, Allocator, Global};
@@ -93,14 +93,6 @@ pub(crate) fn carried(
         Err(CarryRefused::Memory) => scheme.carry(alloc, from, &address),
         other => other,
     }
-}
-
-/// Sees that a trail is this way.
-pub(crate) fn expect_trail(rt: &impl Abort, trail: &Trail, way: &Way<'_>) {
-    let (_, _, _, nodes, ports, length) = *way;
-    same(rt, trail.nodes.as_slice(), nodes, "the nodes of a way");
-    same(rt, trail.ports.as_slice(), ports, "the ports of a way");
-    same(rt, trail.length, length, "the length of a way");
 }
 
 /// A heap of so many bytes.

@@ -1,6 +1,6 @@
 //! Tests of worked schemes.
 //!
-//! There is nothing here but tests: schemes that are built of worked graphs, of the longest path and of drawn graphs, by trees and
+//! There is nothing here but tests: schemes that are built of the longest path and of drawn graphs, by trees and
 //! over lists, under each allocator; a build by trees in a scratch for one tree; schemes of made-up tables; the scheme of a path of five nodes with one change to its tables, each judged by
 //! [`certificate::check`]; and building and carrying made again where memory was refused.
 #![tactic(auto)]
@@ -15,7 +15,6 @@ mod helpers;
 mod made_up;
 #[cfg(test)]
 mod memory;
-#[cfg(test)]
 #[cfg(test)]
 mod trees;
 #[cfg(test)]

@@ -1,9 +1,7 @@
 // Want of memory. Run by `./refuse-memory`, each allocation refused in turn: a call whose allocation is refused says so, and made
 // again it gives the whole answer. What else a test allocates it asks for again where it is refused.
 use crate::drawn::is_right;
-use crate::helpers::{
-    Edge, PATH, built, carried, expect_trail, got, graph_of, heap_of, same, scheme_with,
-};
+use crate::helpers::{Edge, PATH, built, carried, got, graph_of, heap_of, same, scheme_with};
 use rand_core::{Rng, SeedableRng};
 use rand_xoshiro::Xoshiro256PlusPlus;
 use sample_networks::plain_distances;
@@ -31,15 +29,19 @@ fn carries_after_a_want_of_memory(rt: HostRuntime) {
     let rt = &rt;
     let scheme = scheme_with(rt, alloc, 5, &PATH, &[2]);
     let trail = got(rt, carried(rt, alloc, &scheme, 0, 4));
-    let way = (
-        5,
-        PATH.as_slice(),
-        [2u16].as_slice(),
+    same(
+        rt,
+        trail.nodes.as_slice(),
         [0u16, 1, 2, 3, 4].as_slice(),
-        [0u16, 1, 1, 1].as_slice(),
-        4,
+        "the nodes",
     );
-    expect_trail(rt, &trail, &way);
+    same(
+        rt,
+        trail.ports.as_slice(),
+        [0u16, 1, 1, 1].as_slice(),
+        "the ports",
+    );
+    same(rt, trail.length, 4, "the length");
 }
 
 const DRAWN: u16 = 12;

@@ -1,42 +1,14 @@
-// Built schemes of the worked graphs. Their clusters and addresses are in conformance/tables.txt, table_bytes.txt and live_packets.txt.
+// Built schemes of long paths, and what else is worked out by hand. Clusters, addresses and ways of the worked graphs are in
+// conformance/tables.txt, table_bytes.txt and live_packets.txt.
 use crate::helpers::{
-    PAIRS, PATH, STACK_LEN, TRIANGLE, Way, built, by_lists, carried, ends_of, expect_trail, got,
-    graph_of, same, scheme_with,
+    PATH, STACK_LEN, TRIANGLE, built, by_lists, carried, got, graph_of, same, scheme_with,
 };
 use graph_edits::{Change, Graph, MOST_NODES, Op, length_over};
 use scheme_builds::{SCRATCH_LEN, first_words};
-use schemes::{CarryRefused, Move, Refused, Scheme};
+use schemes::{Move, Refused, Scheme};
 use std::alloc::{AllocError, Global};
 use std::process::Abort;
 use std::thread;
-
-/// Ways in the worked graphs.
-const WAYS: [Way<'static>; 5] = [
-    (5, &PATH, &[2], &[0, 1, 2, 3, 4], &[0, 1, 1, 1], 4),
-    (5, &PATH, &[], &[0, 1, 2, 3, 4], &[0, 1, 1, 1], 4),
-    (5, &PATH, &[2], &[3], &[], 0),
-    (3, &TRIANGLE, &[0], &[2, 0, 1], &[0, 0], 3),
-    (4, &PAIRS, &[0], &[2, 3], &[0], 5),
-];
-
-#[test]
-fn routes_on_the_worked_graphs(rt: HostRuntime) {
-    let alloc = rt.alloc();
-    let rt = &rt;
-    for way in &WAYS {
-        let (nodes, edges, at, through, _, _) = *way;
-        let scheme = scheme_with(rt, alloc, nodes, edges, at);
-        let (from, to) = ends_of(through);
-        expect_trail(rt, &got(rt, carried(rt, alloc, &scheme, from, to)), way);
-    }
-    let scheme = scheme_with(rt, alloc, 4, &PAIRS, &[0]);
-    for ends in &[(2u16, 0u16), (0, 3)] {
-        let (from, to) = *ends;
-        let none = carried(rt, alloc, &scheme, from, to).err();
-        same(rt, none, Some(CarryRefused::Unreachable), "apart");
-    }
-    same(rt, SCRATCH_LEN, 67_108_864, "a build's scratch");
-}
 
 /// Copies of the packet from the path's first node to its last, and of the move by which it leaves.
 fn copies_of_packets(rt: &impl Abort, scheme: &Scheme) {
@@ -98,6 +70,7 @@ fn first_words_and_lengths(rt: HostRuntime) {
     for (way, length) in &LENGTHS {
         same(rt, length_over(&graph, way), *length, "a length");
     }
+    same(rt, SCRATCH_LEN, 67_108_864, "a build's scratch");
 }
 
 /// Long paths: how many nodes one has, and of how many nodes the last is a landmark. The longest has as many as a graph may have.

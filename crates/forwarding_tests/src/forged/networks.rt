@@ -4,9 +4,9 @@ ghost use Rattle.forwarding_tests.specs.InARow.{IsInARow};
 use crate::posted::{got, one_forwarder, post_scheme};
 use forwarders::Forwarder;
 use generations::{BoardWriter, MOST_SHELVED};
-use graph_edits::{Change, Graph, Op};
 use rand_core::Rng;
 use rand_xoshiro::Xoshiro256PlusPlus;
+use sample_networks::{Edge, drawn_edges, drawn_nodes, graph_of, words_at};
 use scheme_builds::scheme_of;
 use schemes::Scheme;
 use std::alloc::Global;
@@ -29,24 +29,14 @@ pub(crate) fn number(rng: &mut Xoshiro256PlusPlus, limit: u16) -> u16 {
 /// For each node its neighbours in ascending order.
 pub(crate) type Network = Vec<Vec<u16>>;
 
-/// Draws which pairs of nodes have an edge, of weight 1 to 6, and adds them to the graph: the neighbours of each node.
-fn drawn_edges(
-    rt: &impl Abort,
-    alloc: Global,
-    rng: &mut Xoshiro256PlusPlus,
-    graph: &mut Graph,
-    nodes: u16,
-) -> Network {
-    let chance = 1 + rng.next_u64() % 9;
+fn neighbours_of(rt: &impl Abort, alloc: Global, nodes: u16, edges: &[Edge]) -> Network {
     let mut network = Vec::new(alloc);
     for a in 0..nodes {
         let mut neighbours = Vec::new(alloc);
-        for b in 0..a {
-            if below(rng, 10) < chance {
-                let weight = 1 + (rng.next_u64() % 6) as u32;
-                add_edge(rt, graph, b, a, weight);
+        for b in 0..nodes {
+            let ends = [(a, b), (b, a)];
+            if edges.iter().any(|edge| ends.contains(&(edge.0, edge.1))) {
                 got(rt, neighbours.push(b));
-                join(rt, &mut network, b, a);
             }
         }
         got(rt, network.push(neighbours));
@@ -54,39 +44,7 @@ fn drawn_edges(
     network
 }
 
-fn add_edge(rt: &impl Abort, graph: &mut Graph, a: u16, b: u16, weight: u32) {
-    let change = got(rt, Change::new(&[Op::Add(a, b, weight)]));
-    got(rt, graph.apply(&change));
-}
-
-/// One neighbour more of a node.
-fn join(rt: &impl Abort, network: &mut Network, a: u16, b: u16) {
-    if let Some(neighbours) = network.get_mut(a as usize) {
-        got(rt, neighbours.push(b));
-    }
-}
-
-/// Landmark words: of one node in three, or of nearly none.
-fn drawn_words(
-    rt: &impl Abort,
-    alloc: Global,
-    rng: &mut Xoshiro256PlusPlus,
-    nodes: u16,
-) -> Vec<u64> {
-    let one_in = 3 + 20 * (rng.next_u64() % 2);
-    let mut words = Vec::new(alloc);
-    for _ in 0..nodes {
-        let word = if below(rng, one_in) == 0 {
-            0u64
-        } else {
-            u64::MAX
-        };
-        got(rt, words.push(word));
-    }
-    words
-}
-
-/// A drawn network of 1 to 24 nodes, and its scheme.
+/// A drawn network of 1 to 24 nodes, with edges of weight 1 to 6 and with one node in three a landmark, or nearly none; and its scheme.
 fn drawn_network(
     rt: &impl Abort,
     alloc: Global,
@@ -94,11 +52,14 @@ fn drawn_network(
     generation: u64,
 ) -> (Network, Scheme) {
     let nodes = 1 + (rng.next_u64() % MOST_DRAWN) as u16;
-    let mut graph = got(rt, Graph::empty(alloc, nodes));
-    let network = drawn_edges(rt, alloc, rng, &mut graph, nodes);
-    let words = drawn_words(rt, alloc, rng, nodes);
+    let chance = 1 + rng.next_u64() % 9;
+    let edges = got(rt, drawn_edges(alloc, rng, nodes, 6, (chance, 10)));
+    let one_in = 3 + 20 * (rng.next_u64() % 2);
+    let at = got(rt, drawn_nodes(alloc, rng, nodes, (1, one_in)));
+    let graph = got(rt, graph_of(alloc, nodes, &edges));
+    let words = got(rt, words_at(alloc, nodes, &at));
     let scheme = got(rt, scheme_of(alloc, &graph, &words, generation, alloc));
-    (network, scheme)
+    (neighbours_of(rt, alloc, nodes, &edges), scheme)
 }
 
 /// Posts drawn networks as the generations 1 to 4: which they are.

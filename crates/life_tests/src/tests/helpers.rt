@@ -24,7 +24,6 @@ pub(super) enum Step<'a> {
     Look(u8),
     Take,
     Commit,
-    Post,
     Launch(u16, u16, usize),
     Hop,
 }
@@ -94,7 +93,6 @@ fn event(rt: &impl Abort, step: &Step) -> Event {
         },
         Step::Take => Event::Take,
         Step::Commit => Event::Commit,
-        Step::Post => Event::Post,
         Step::Launch(from, to, at) => Event::Launch { from, to, at },
         Step::Hop => Event::Hop { packet: 0, at: 0 },
     }

@@ -1,7 +1,68 @@
 // The two lives of the path, made again where memory was short. Run by `./refuse-memory`, which refuses each allocation in turn: the call
 // in which it is refused answers Memory, and the same lives on a fresh device give the answers.
 use super::*;
-use crate::tests::worked::{FIRST_REPLIES, SECOND_REPLIES, TWO};
+
+const FIRST: [Step; 3] = [Step::Submit(0, 1, &PATH), Step::Take, Step::Commit];
+
+const FIRST_REPLIES: [Reply; 3] = [
+    Reply::Submitted { ticket: 1 },
+    Reply::Taken {
+        session: 0,
+        ticket: 1,
+    },
+    Reply::Committed { accepted: 1 },
+];
+
+const AGAIN: [Op; 1] = [Op::Set(0, 1, 1)];
+
+// On the path's device, by the landmark 2: what is asked for again is in, and a packet goes from end to end.
+const SECOND: [Step; 13] = [
+    Step::Submit(0, 1, &PATH),
+    Step::Look(0),
+    Step::Submit(0, 2, &AGAIN),
+    Step::Submit(0, 3, &AGAIN),
+    Step::Submit(1, 1, &AGAIN),
+    Step::Launch(0, 4, 0),
+    Step::Launch(0, 4, 1),
+    Step::Hop,
+    Step::Hop,
+    Step::Hop,
+    Step::Hop,
+    Step::Hop,
+    Step::Hop,
+];
+
+const SECOND_REPLIES: [Reply; 13] = [
+    Reply::NotSubmitted(SubmitRefused::AlreadyIn),
+    Reply::Looked(Outcome::Nothing),
+    Reply::Submitted { ticket: 2 },
+    Reply::NotSubmitted(SubmitRefused::Busy),
+    Reply::NoActor,
+    Reply::NotRouted(RouteRefused::GenerationGone),
+    Reply::Launched { packet: 0 },
+    Reply::Forwarded { port: 0, next: 1 },
+    Reply::Forwarded { port: 1, next: 2 },
+    Reply::Forwarded { port: 1, next: 3 },
+    Reply::Forwarded { port: 1, next: 4 },
+    Reply::Delivered,
+    Reply::NoActor,
+];
+
+// The two lives of the path.
+const TWO: [Asked; 2] = [
+    Asked {
+        words: &[],
+        steps: &FIRST,
+        plan: Plan::None,
+        word: 0,
+    },
+    Asked {
+        words: &[u64::MAX, u64::MAX, 0],
+        steps: &SECOND,
+        plan: Plan::None,
+        word: 0,
+    },
+];
 
 // What the rebuild and the events of each life are answered.
 const ROWS: [(Reply, &[Reply]); 2] = [

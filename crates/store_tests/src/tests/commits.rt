@@ -1,39 +1,6 @@
-// Commits: their bytes, the count, a worn store, and every failure of the device inside a commit.
+// Commits: the count, a worn store, and every failure of the device inside a commit. The bytes of records are in conformance/formats.txt,
+// and those of one with two sessions in desk_tests.
 use super::*;
-
-#[test]
-fn commits_one_edge(rt: HostRuntime) {
-    let alloc = rt.alloc();
-    let rt = &rt;
-    let mut disk = with_edge(rt, alloc);
-    let record = "01 00000015 0001 00 0000000000000001 01 01 0000 0001 00000001 00";
-    shows(rt, &mut disk, FIRST_AREA, record);
-    opens(rt, alloc, disk, (0, 1), (1, 1, Some(1)), "one edge");
-}
-
-// One request of session 0, and one of session 1.
-const TWO_SESSIONS: [Asked; 4] = [
-    (0, 1, Op::Add(0, 1, 7)),
-    (1, 1, Op::Set(1, 0, 9)),
-    (1, 1, Op::Cut(0, 1)),
-    (1, 1, Op::Add(3, 2, 5)),
-];
-
-#[test]
-fn commits_two_sessions(rt: HostRuntime) {
-    let alloc = rt.alloc();
-    let rt = &rt;
-    let mut store = opened(rt, alloc, formatted(rt, alloc, 5));
-    commits(rt, alloc, &mut store, &TWO_SESSIONS);
-    has(rt, &store, (2, 3), (2, 1, Some(5)), "two sessions");
-    let mut disk = store.into_disk();
-    let first =
-        "01 0000003a 0002 00 0000000000000001 01 01 0000 0001 00000007 01 0000000000000001 03";
-    shows(rt, &mut disk, FIRST_AREA, first);
-    let ops = "02 0001 0000 00000009 03 0000 0001 00000000 01 0003 0002 00000005 00";
-    shows(rt, &mut disk, 532_516, ops);
-    opens(rt, alloc, disk, (2, 3), (2, 1, Some(5)), "two sessions");
-}
 
 // Three requests: four ops.
 const THREE: [Asked; 4] = [

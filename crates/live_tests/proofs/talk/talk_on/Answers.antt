@@ -3,5 +3,5 @@ use Rattle.std.proofs.Crossing.{crosses}
 use Rattle.stand_ins.proofs.Sends.{memory_send}
 use Rattle.live_tests.proofs.talk.talk_on.Goals as goal
 
-pub talk_with-requires-send-D : goal.talk_with-requires-send-D
-talk_with-requires-send-D g c κs = search (crosses, sendable, memory_send) depth 60
+pub run-served-requires-send-D : goal.run-served-requires-send-D
+run-served-requires-send-D g c κs = search (crosses, sendable, memory_send) depth 60

@@ -2,7 +2,7 @@
 use crate::helpers::{
     FRONT, NEWER, OF_FIRST, OF_NEWER, OLD_LEN, OLDER, Text, device, got, same, standing,
 };
-use layout_1::{Loaded, layout_law, load, standing_law};
+use layout_1::{Loaded, load};
 use std::alloc::Global;
 use std::process::Abort;
 
@@ -34,6 +34,8 @@ fn loads_images_written_by_hand(rt: HostRuntime) {
     same(rt, standing(&l), OF_FIRST, "the first slot");
     let l = loaded(rt, alloc, &NEWER);
     same(rt, standing(&l), OF_NEWER, "the newer slot");
-    standing_law();
-    layout_law();
+    layout_1::standing_law();
+    layout_1::layout_law();
+    layout_2::standing_law();
+    layout_2::layout_law();
 }
