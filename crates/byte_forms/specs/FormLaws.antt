@@ -8,7 +8,7 @@ use Rattle.std.proofs.lemmas.List.Concat.{flat_map-cons}
 use Rattle.std.proofs.lemmas.Nat.{be_bytes_2, be_bytes_4, be_bytes_8, from_be_bytes-to_be_bytes_2, from_be_bytes-to_be_bytes_4, from_be_bytes-to_be_bytes_8}
 use Rattle.std.proofs.lemmas.Option.{same_Some}
 use Rattle.byte_forms.specs.Forms.{FormOf, IsBytes, IsForm, Takes, list_text, short_text}
-use Rattle.byte_forms.specs.Reading.{◌>>=◌, byte_at, items_at, list_at, made_at, number_at, short_at, then_at, whole_at}
+use Rattle.byte_forms.specs.Reading.{◌>>=◌, byte_at, counted_at, items_at, list_at, made_at, number_at, short_at, then_at, whole_at}
 
 pub IsBytes-drop : (n : ℕ) (bytes : List ℕ) → IsBytes bytes → IsBytes (drop n bytes)
 IsBytes-drop n bytes h i = rw get_or-drop (h (n + i))
@@ -37,7 +37,7 @@ pub guard_true : {A : Type 0} (b : Bool) (o : Option A) (y : A) → cond b o Non
 guard_true true o y e = (refl, e)
 guard_true false o y e = absurd cc
 
-both_true : (a b : Bool) → (a && b) ≡ true → (a ≡ true) × (b ≡ true)
+pub both_true : (a b : Bool) → (a && b) ≡ true → (a ≡ true) × (b ≡ true)
 both_true true b e = (refl, e)
 both_true false b e = absurd cc
 
@@ -50,6 +50,12 @@ IsRead form bytes x = Takes bytes (form.text x.0) x.1 × form.Fits x.0
 
 read_is : {X : Type 0} (form : FormOf X) (bytes : List ℕ) (made found : X × List ℕ) → Some made ≡ Some found → IsRead form bytes made → IsRead form bytes found
 read_is {X} form bytes made found e read = subst (λ (x : X × List ℕ). IsRead form bytes x) (same_Some made found e) read
+
+-- a spelling shows where it ends
+pub apart : {X : Type 0} {form : FormOf X} → IsForm form → (x y : X) (a b : List ℕ) → form.Fits x → form.Fits y → form.text x ++ a ≡ form.text y ++ b → (x ≡ y) × (a ≡ b)
+apart {X} {form} is_form x y a b fx fy e =
+    let both : (x, a) ≡ (y, b) = same_Some (x, a) (y, b) (sym (is_form.again x a fx) ∙ ap form.at e ∙ is_form.again y b fy) in
+    (ap (λ (z : X × List ℕ). z.0) both, ap (λ (z : X × List ℕ). z.1) both)
 
 -- ---- numbers
 
@@ -202,6 +208,15 @@ module _ {X : Type 0} {form : FormOf X} (is_form : IsForm form) where
       let regrouped : flat_map form.text (x ∷ xs) ++ rest ≡ form.text x ++ (flat_map form.text xs ++ rest) = ap (λ (t : List ℕ). t ++ rest) (flat_map-cons form.text x xs) ∙ append_assoc (form.text x) (flat_map form.text xs) rest in
       ap (items_at form.at (suc (length xs))) regrouped ∙ rw (is_form.again x (flat_map form.text xs ++ rest) fits.0, items_again xs rest fits.1) refl
 
+abbrev pub items_form : {X : Type 0} → FormOf X → ℕ → FormOf (List X)
+items_form form n = record { text = flat_map form.text; Fits = λ xs. (length xs ≡ n) × AllByRecursion form.Fits xs; at = items_at form.at n }
+
+pub items_is_form : {X : Type 0} {form : FormOf X} → IsForm form → (n : ℕ) → IsForm (items_form form n)
+items_is_form {X} {form} is_form n = record {
+  takes = λ bytes x fits e. (let t = items_take is_form n bytes x fits e in (t.0, (t.1, t.2)));
+  again = λ xs rest fits. subst (λ n. items_at form.at n (flat_map form.text xs ++ rest) ≡ Some (xs, rest)) fits.0 (items_again is_form xs rest fits.1);
+}
+
 -- items of one size
 pub length_items : {X : Type 0} (text : X → List ℕ) (size : ℕ) → ((x : X) → length (text x) ≡ size) → (xs : List X) → length (flat_map text xs) ≡ size * length xs
 length_items text size each [] = omega arith
@@ -233,7 +248,34 @@ module _ {X : Type 0} {form : FormOf X} (is_form : IsForm form) where
         ap (list_at form.at) regrouped ∙ rw (u16_is_form.again (length xs) (flat_map form.text xs ++ rest) fits.0, items_again is_form xs rest fits.1) refl;
   }
 
--- ---- short lists
+-- ---- lists within bounds
+
+abbrev pub counted_form : {X : Type 0} → FormOf ℕ → FormOf X → ℕ → ℕ → FormOf (List X)
+counted_form number form least most = record {
+  text = λ xs. number.text (length xs) ++ flat_map form.text xs;
+  Fits = λ xs. (least ≤ length xs) × (length xs ≤ most) × AllByRecursion form.Fits xs;
+  at = counted_at number.at form.at least most;
+}
+
+module _ {X : Type 0} {number : FormOf ℕ} {form : FormOf X} (is_number : IsForm number) (is_form : IsForm form) (least most : ℕ)
+    (again : (n : ℕ) (rest : List ℕ) → n ≤ most → number.at (number.text n ++ rest) ≡ Some (n, rest)) where
+  pub counted_is_form : IsForm (counted_form number form least most)
+  counted_is_form = record {
+    takes = λ bytes x fits e.
+        let n = bind_some (number.at bytes) (λ n. cond (leb least n.0 && leb n.0 most) (items_at form.at n.0 n.1) None) x e in
+        let g = guard_true (leb least n.0.0 && leb n.0.0 most) (items_at form.at n.0.0 n.0.1) x n.2 in
+        let within = both_true (leb least n.0.0) (leb n.0.0 most) g.0 in
+        let some : least ≤ n.0.0 = leb-true _ _ within.0 in
+        let few : n.0.0 ≤ most = leb-true _ _ within.1 in
+        let many = is_number.takes bytes n.0 fits n.1 in
+        let all = items_take is_form n.0.0 n.0.1 x many.0.rest_fits g.1 in
+        let both = Takes-then bytes (number.text n.0.0) n.0.1 (flat_map form.text x.0) x.1 many.0 all.0 in
+        (subst (λ n. Takes bytes (number.text n ++ flat_map form.text x.0) x.1) (sym all.1) both, (omega (arith, some, all.1), omega (arith, few, all.1), all.2));
+    again = λ xs rest fits.
+        let regrouped : (number.text (length xs) ++ flat_map form.text xs) ++ rest ≡ number.text (length xs) ++ (flat_map form.text xs ++ rest) = append_assoc (number.text (length xs)) (flat_map form.text xs) rest in
+        ap (counted_at number.at form.at least most) regrouped
+        ∙ rw (again (length xs) (flat_map form.text xs ++ rest) fits.1, le-leb least (length xs) fits.0, le-leb (length xs) most fits.1) (items_again is_form xs rest fits.2);
+  }
 
 abbrev pub short_form : {X : Type 0} → FormOf X → ℕ → ℕ → FormOf (List X)
 short_form form least most = record {
@@ -245,20 +287,7 @@ short_form form least most = record {
 module _ {X : Type 0} {form : FormOf X} (is_form : IsForm form) (least most : ℕ) where
   pub short_is_form : IsForm (short_form form least most)
   unfolding short_at
-  short_is_form = record {
-    takes = λ bytes x fits e.
-        let n = bind_some (byte_at bytes) (λ n. cond (leb least n.0 && leb n.0 most) (items_at form.at n.0 n.1) None) x e in
-        let g = guard_true (leb least n.0.0 && leb n.0.0 most) (items_at form.at n.0.0 n.0.1) x n.2 in
-        let within = both_true (leb least n.0.0) (leb n.0.0 most) g.0 in
-        let some : least ≤ n.0.0 = leb-true _ _ within.0 in
-        let few : n.0.0 ≤ most = leb-true _ _ within.1 in
-        let many = byte_takes bytes n.0 fits n.1 in
-        let all = items_take is_form n.0.0 n.0.1 x many.0.rest_fits g.1 in
-        let both = Takes-then bytes (n.0.0 ∷ []) n.0.1 (flat_map form.text x.0) x.1 many.0 all.0 in
-        (subst (λ n. Takes bytes (n ∷ flat_map form.text x.0) x.1) (sym all.1) both, (omega (arith, some, all.1), omega (arith, few, all.1), all.2));
-    again = λ xs rest fits.
-        rw (le-leb least (length xs) fits.0, le-leb (length xs) most fits.1) (items_again is_form xs rest fits.2);
-  }
+  short_is_form = counted_is_form byte_is_form is_form least most (λ n rest le. refl)
 
 -- ---- parts, and the whole
 

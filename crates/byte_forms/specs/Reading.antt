@@ -62,11 +62,15 @@ list_at found bytes = do
   n ← number_at w16 bytes
   items_at found n.0 n.1
 
--- a short list: how many there are, in one byte, no fewer and no more than these, and each of them
-unfoldable pub short_at : {X : Type 0} → (List ℕ → Option (X × List ℕ)) → ℕ → ℕ → List ℕ → Option (List X × List ℕ)
-short_at found least most bytes = do
-  n ← byte_at bytes
+-- a list within bounds: how many there are, no fewer and no more than these, and each of them
+abbrev pub counted_at : {X : Type 0} → (List ℕ → Option (ℕ × List ℕ)) → (List ℕ → Option (X × List ℕ)) → ℕ → ℕ → List ℕ → Option (List X × List ℕ)
+counted_at count found least most bytes = do
+  n ← count bytes
   if nat_le least n.0 && nat_le n.0 most then items_at found n.0 n.1 else None
+
+-- a short list: how many there are stands in one byte
+unfoldable pub short_at : {X : Type 0} → (List ℕ → Option (X × List ℕ)) → ℕ → ℕ → List ℕ → Option (List X × List ℕ)
+short_at found least most bytes = counted_at byte_at found least most bytes
 
 -- what all bytes are, where nothing stands behind it
 abbrev pub whole_at : {X : Type 0} → (List ℕ → Option (X × List ℕ)) → List ℕ → Option X

@@ -100,7 +100,8 @@ pub fn short_of<F: Form, const N: usize>(
 ) -> Option<(ArrayVec<F::Value, N>, &[u8])>
 where
     F::Value: Default,
-    ensures { Finds (λ x. (x.0.items, x.1.now)) result (short_at F.form.at least N bytes.now) }
+    ensures items { Finds (λ x. (x.0.items, x.1.now)) result (short_at F.form.at least N bytes.now) }
+    ensures least { IfSome result (λ x. least ≤ length x.0.items) }
 {
     let (count, rest) = u8_at(bytes)?;
     let count = count as usize;

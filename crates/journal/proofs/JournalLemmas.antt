@@ -5,9 +5,8 @@ use Rattle.std.proofs.lemmas.List.{take_at, map-append}
 use Rattle.std.specs.declared.alloc.Global.{Global}
 use Rattle.journal.specs.Forms.{EntryForm, IsForm}
 use Rattle.journal.specs.Layout.{closed_gate, length_size, record_head}
-use Rattle.journal.specs.Spelling.{payload_of, IsGroup}
+use Rattle.journal.specs.Spelling.{payload_of, IsGroup, group_of}
 use Rattle.journal.specs.Records.{Area, body, record_of, records, text_behind, AllSpell}
-use Rattle.journal.specs.Reading.{group_of}
 use Rattle.disk_trait.specs.Disk.{DiskView}
 use Rattle.journal.specs.JournalView.{JournalView, HasRoom, group_in, groups_in}
 use Rattle.journal.proofs.AreaLemmas.{IsNext, length_body, length_push}

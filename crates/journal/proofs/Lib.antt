@@ -1,6 +1,5 @@
 mod AreaLemmas
 mod Groups
 mod JournalLemmas
-mod Loop
 pub mod Lists
 mod Scans

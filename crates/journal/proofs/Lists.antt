@@ -1,27 +1,26 @@
 -- A payload spells one group, and an area at most one list of groups.
-use Rattle.std.proofs.Common.{◌≡◌, ◌≢◌, ℕ, suc, ◌+◌, ◌*◌, ◌<◌, ◌≤◌, List, [], ◌∷◌, ◌++◌, length, get_or, take, drop, Some, refl, sym, ap, ◌∙◌, append_assoc, arith, length-append}
+use Rattle.std.proofs.Common.{◌≡◌, ◌≢◌, ℕ, suc, ◌+◌, ◌*◌, ◌<◌, ◌≤◌, List, [], ◌∷◌, ◌++◌, length, get_or, take, drop, refl, sym, ap, ◌∙◌, append_assoc, arith, length-append}
 use Rattle.std.specs.List.{flat_map, AllByRecursion}
-use Rattle.std.specs.Int.{w16, w32, to_be_bytes}
-use Rattle.std.proofs.lemmas.List.{append-nil, take_at, drop_at, take-append-drop, get_or-drop}
+use Rattle.std.specs.Int.{w16, to_be_bytes}
+use Rattle.std.proofs.lemmas.List.{append-nil, take-append-drop, get_or-drop}
 use Rattle.std.proofs.lemmas.List.Concat.{flat_map-cons}
 use Rattle.std.proofs.lemmas.Grind.{flat_map-append}
 use Rattle.std.proofs.Math.Seq.{take-suc}
 use Rattle.std.proofs.Math.Nat.{mul-suc, mul-le-mul_left}
 use Rattle.std.proofs.Math.Numerals.{add-one}
+use Rattle.byte_forms.specs.FormLaws.{apart, one_value}
 use Rattle.disk_trait.specs.Disk.{bytes_at}
 use Rattle.journal.specs.Forms.{EntryForm, IsForm, least_payload, most_payload}
-use Rattle.journal.specs.Layout.{open_gate, count_size, most_entries, most_entry}
+use Rattle.journal.specs.Layout.{open_gate, length_size, count_size, most_entries, most_entry}
 use Rattle.journal.specs.Records.{Area, body, records, Spells}
 use Rattle.journal.specs.Spelling.{payload_of, IsGroup}
-use Rattle.journal.specs.Reading.{number_at, group_of}
-use Rattle.journal.specs.Readers.{some_is, full}
-use Rattle.journal.proofs.Groups.{group_again}
+use Rattle.journal.proofs.Groups.{group_is_form}
 
 -- ---- payloads
 
 module _ {E : Type 0} (form : EntryForm E) (is_form : IsForm form) where
   pub one_group : (g h : List E) → IsGroup form g → IsGroup form h → payload_of form g ≡ payload_of form h → g ≡ h
-  one_group g h is_g is_h e = some_is g h (sym (group_again form is_form g is_g) ∙ ap (group_of form) e ∙ group_again form is_form h is_h)
+  one_group g h is_g is_h e = one_value (group_is_form form is_form) g h (is_g.some, is_g.few, is_g.each) (is_h.some, is_h.few, is_h.each) e
 
   -- the texts of one entry more
   pub length_more : (entries : List E) (i : ℕ) (entry : E) → i < length entries → entry ≡ get_or entries i entry
@@ -58,17 +57,7 @@ module _ {E : Type 0} (form : EntryForm E) (is_form : IsForm form) where
 
   -- one record's group, and what stands behind it
   cancel : (g h : List E) (x y : List ℕ) → IsGroup form g → IsGroup form h → body (payload_of form g) ++ x ≡ body (payload_of form h) ++ y → (g ≡ h) × (x ≡ y)
-  cancel g h x y is_g is_h e =
-      let p = payload_of form g in
-      let q = payload_of form h in
-      let left : number_at w32 (body p ++ x) ≡ Some (length p, p ++ x) = ap (number_at w32) (append_assoc (to_be_bytes w32 (length p)) p x) ∙ full.again (length p) (p ++ x) (omega (arith, small_payload g is_g)) in
-      let right : number_at w32 (body q ++ y) ≡ Some (length q, q ++ y) = ap (number_at w32) (append_assoc (to_be_bytes w32 (length q)) q y) ∙ full.again (length q) (q ++ y) (omega (arith, small_payload h is_h)) in
-      let both = some_is (length p, p ++ x) (length q, q ++ y) (sym left ∙ ap (number_at w32) e ∙ right) in
-      let n : length p ≡ length q = ap (λ (z : ℕ × List ℕ). z.0) both in
-      let all : p ++ x ≡ q ++ y = ap (λ (z : ℕ × List ℕ). z.1) both in (
-        one_group g h is_g is_h (sym (take_at p x (length p) refl) ∙ ap (take (length p)) all ∙ take_at q y (length p) (sym n)),
-        sym (drop_at p x (length p) refl) ∙ ap (drop (length p)) all ∙ drop_at q y (length p) (sym n),
-      )
+  cancel g h x y is_g is_h e = apart (group_is_form form is_form) g h x y (is_g.some, is_g.few, is_g.each) (is_h.some, is_h.few, is_h.each) (ap (drop length_size) e)
 
   -- what records begin with, another spelling continues
   pub record Continues (gs hs : List (List E)) (x y : List ℕ) : Type 0 where

@@ -1,26 +1,26 @@
 -- What one record tells, and how a scan goes on.
-use Rattle.std.proofs.Common.{◌≡◌, ◌≢◌, ◌⊎◌, inl, inr, ℕ, ◌+◌, ◌-◌, ◌<◌, ◌≤◌, List, [], ◌∷◌, ◌++◌, length, get_or, take, drop, Option, Some, None, Err, refl, sym, ap, subst, ◌∙◌, append_assoc, arith, length-append, length-take, length-drop}
-use Rattle.std.specs.Global.{Vec}
+use Rattle.std.proofs.Common.{◌≡◌, ◌≢◌, ◌⊎◌, inl, inr, ℕ, ◌+◌, ◌-◌, ◌<◌, ◌≤◌, List, [], ◌∷◌, ◌++◌, length, get_or, take, drop, Some, None, refl, sym, ap, subst, ◌∙◌, append_assoc, arith, length-append, length-take, length-drop}
 use Rattle.std.specs.List.{AllByRecursion}
 use Rattle.std.specs.Int.{w32, to_be_bytes}
 use Rattle.std.proofs.lemmas.List.{append-nil, take_at, drop_at, take-append-drop, take-take, drop-take, drop-drop}
 use Rattle.std.proofs.Math.Seq.{take-append-add}
 use Rattle.std.proofs.lemmas.List.Concat.{flat_map-cons}
 use Rattle.std.proofs.lemmas.Bool.{cases_lt}
+use Rattle.std.proofs.lemmas.Option.{none-some, same_Some}
+use Rattle.byte_forms.specs.Forms.{IsBytes}
+use Rattle.byte_forms.specs.FormLaws.{IsBytes-drop, IsBytes-take, u32_is_form}
+use Rattle.byte_forms.specs.Reading.{number_at}
 use Rattle.disk_trait.specs.Disk.{DiskView, OnlyRead, bytes_at}
 use Rattle.disk_trait.specs.Places.{both, byte_of}
-use Rattle.journal.specs.declared.group.ReadError.{ReadError}
-use Rattle.journal.specs.declared.group.ReadError.TheVariants.{Malformed, Memory}
 use Rattle.journal.specs.declared.window.Window.{Window}
-use Rattle.journal.specs.Forms.{IsBytes, EntryForm, IsForm}
+use Rattle.journal.specs.Forms.{EntryForm, IsForm}
 use Rattle.journal.specs.Layout.{open_gate, record_head, most_record}
-use Rattle.journal.specs.Spelling.{payload_of, IsGroup}
+use Rattle.journal.specs.Spelling.{payload_of, IsGroup, group_of}
 use Rattle.journal.specs.Records.{Area, body, record_of, records, entries_of, Spells, SpellsNothing}
-use Rattle.journal.specs.Reading.{GivesOr, number_at}
 use Rattle.journal.specs.Windows.{Holds}
 use Rattle.journal.specs.Scanning.{BeginsWith, IsNextRecord, HasNoRecord}
 use Rattle.journal.proofs.AreaLemmas.{length_record, records-push, length_push, each-push}
-use Rattle.journal.specs.Readers.{IsBytes-drop, some_is, full}
+use Rattle.journal.proofs.Groups.{group_again, group_takes}
 use Rattle.journal.proofs.Lists.{small_payload, tail_at, gate_of_tail, begins}
 
 -- ---- the disk
@@ -47,7 +47,7 @@ module _ {E : Type 0} (form : EntryForm E) (is_form : IsForm form) where
     record_is group after is e =
         let p = payload_of form group in
         let there : drop 1 bytes ≡ to_be_bytes w32 (length p) ++ (p ++ after) = ap (drop 1) e ∙ append_assoc (to_be_bytes w32 (length p)) p after in
-        let pair = some_is (len, behind) (length p, p ++ after) (sym number ∙ ap (number_at w32) there ∙ full.again (length p) (p ++ after) (omega (arith, small_payload form is_form group is))) in
+        let pair = same_Some (len, behind) (length p, p ++ after) (sym number ∙ ap (number_at w32) there ∙ u32_is_form.again (length p) (p ++ after) (omega (arith, small_payload form is_form group is))) in
         (ap (λ (x : ℕ × List ℕ). x.0) pair, ap (λ (x : ℕ × List ℕ). x.1) pair)
 
     pub too_long : length behind ≤ len → HasNoRecord form bytes
@@ -55,15 +55,18 @@ module _ {E : Type 0} (form : EntryForm E) (is_form : IsForm form) where
         let r = record_is group after is e in
         omega (arith, long, some, r.0, ap length r.1, length-append (payload_of form group) after)
 
-    pub no_payload : ((group : List E) → IsGroup form group → take len behind ≡ payload_of form group → ⊥) → HasNoRecord form bytes
+    pub no_payload : group_of form (take len behind) ≡ None → HasNoRecord form bytes
     no_payload none group after is some e =
         let r = record_is group after is e in
-        none group is (ap (take len) r.1 ∙ take_at (payload_of form group) after len (sym r.0))
+        let payload : take len behind ≡ payload_of form group = ap (take len) r.1 ∙ take_at (payload_of form group) after len (sym r.0) in
+        none-some group (sym none ∙ ap (group_of form) payload ∙ group_again form is_form group is)
 
-    pub next_is : (group : List E) → IsBytes bytes → bytes ≡ open_gate ∷ drop 1 bytes → len < length behind → IsGroup form group → take len behind ≡ payload_of form group → IsNextRecord form bytes group (record_head + len)
-    next_is group fits one shorter is payload =
-        let t = full.takes (drop 1 bytes) (len, behind) (IsBytes-drop 1 bytes fits) number in
+    pub next_is : (group : List E) → IsBytes bytes → bytes ≡ open_gate ∷ drop 1 bytes → len < length behind → group_of form (take len behind) ≡ Some group → IsNextRecord form bytes group (record_head + len)
+    next_is group fits one shorter found =
+        let t = u32_is_form.takes (drop 1 bytes) (len, behind) (IsBytes-drop 1 bytes fits) number in
         let p = payload_of form group in
+        let is = group_takes form is_form (take len behind) group (IsBytes-take len behind t.0.rest_fits) found in
+        let payload = is.1 in
         let size_p : length p ≡ len = omega (arith, ap length payload, length-take len behind, shorter) in
         let after = drop len behind in
         let behind_is : behind ≡ p ++ after = sym (take-append-drop len behind) ∙ ap (λ (l : List ℕ). l ++ after) payload in
@@ -72,19 +75,11 @@ module _ {E : Type 0} (form : EntryForm E) (is_form : IsForm form) where
         let size : length (record_of form group) ≡ record_head + len = omega (arith, length_record form group, size_p) in
         let size_bytes : length bytes ≡ record_head + length behind = ap length whole ∙ omega (arith, length-append (record_of form group) after, size, ap length behind_is, length-append p after, size_p) in
         record {
-          is_group = is;
+          is_group = is.0;
           bytes_are = whole ∙ ap (λ (l : List ℕ). record_of form group ++ l) (sym (ap (drop (record_head + len)) whole ∙ drop_at (record_of form group) after (record_head + len) size));
           size_is = sym size;
           shorter = omega (arith, size_bytes, shorter);
         }
-
-  not_none : {A : Type 0} (x : A) (r : Option A) → r ≡ Some x → r ≡ None → ⊥
-  not_none x (Some y) e f = absurd cc
-  not_none x None e f = absurd cc
-
-  pub refused_is : (bytes : List ℕ) (refused : ReadError) → refused ≡ Malformed → ((group : List E) → IsGroup form group → bytes ≡ payload_of form group → GivesOr {X = Vec E} (λ v. v.items) (Err refused) (Some group)) → (group : List E) → IsGroup form group → bytes ≡ payload_of form group → ⊥
-  refused_is bytes Malformed e only group is same = not_none group (Some group) refl (only group is same)
-  refused_is bytes Memory e only group is same = absurd cc
 
   pub begins_open : (bytes : List ℕ) → 1 ≤ length bytes → get_or bytes 0 0 ≡ open_gate → bytes ≡ open_gate ∷ drop 1 bytes
   begins_open [] some gate = absurd (omega (arith, some))

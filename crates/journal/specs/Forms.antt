@@ -1,20 +1,7 @@
 -- What the list of an area is made of: values that have one text each.
-use Rattle.std.specs.Prelude.{◌≡◌, ◌<◌, ◌≤◌, ◌+◌, ◌*◌, ℕ, List, ◌++◌, length, get_or, Option, Some}
+use Rattle.std.specs.Prelude.{◌≤◌, ◌+◌, ◌*◌, ℕ, List, length, Option}
+use Rattle.byte_forms.specs.Forms.{FormOf, IsForm as IsByteForm}
 use Rattle.journal.specs.Layout.{count_size, most_entries, most_entry}
-
--- each of these numbers is a byte
-abbrev pub IsBytes : List ℕ → Type 0
-IsBytes bytes = (i : ℕ) → get_or bytes i 0 < 256
-
--- what a reader took from the front
-pub record Takes (bytes text rest : List ℕ) : Type 0 where
-  pub parts : bytes ≡ text ++ rest
-  pub rest_fits : IsBytes rest
-
--- what is read has this text, and what has this text is read
-pub record IsReader {A : Type 0} (read : List ℕ → Option (A × List ℕ)) (text : A → List ℕ) (Fits : A → Type 0) : Type 0 where
-  pub takes : (bytes : List ℕ) (x : A × List ℕ) → IsBytes bytes → read bytes ≡ Some x → Takes bytes (text x.0) x.1 × Fits x.0
-  pub again : (a : A) (rest : List ℕ) → Fits a → read (text a ++ rest) ≡ Some (a, rest)
 
 -- the form of entries
 pub record EntryForm (E : Type 0) : Type 1 where
@@ -29,9 +16,17 @@ pub record EntryForm (E : Type 0) : Type 1 where
   -- and of the longest
   pub most : ℕ
 
+-- the same form without the lengths
+abbrev pub bytes_form : {E : Type 0} → EntryForm E → FormOf E
+bytes_form form = record { text = form.text; Fits = form.IsEntry; at = form.at }
+
+-- entries of a form, with the lengths of its shortest and of its longest text
+abbrev pub entries_as : {E : Type 0} → FormOf E → ℕ → ℕ → EntryForm E
+entries_as form least most = record { text = form.text; IsEntry = form.Fits; at = form.at; least = least; most = most }
+
 -- each entry has one text, and a text that is read is one entry's
 pub record IsForm {E : Type 0} (form : EntryForm E) : Type 0 where
-  pub reader : IsReader form.at form.text form.IsEntry
+  pub reader : IsByteForm (bytes_form form)
   pub sizes : (entry : E) → form.IsEntry entry → (form.least ≤ length (form.text entry)) × (length (form.text entry) ≤ form.most)
   pub small : form.most ≤ most_entry
 

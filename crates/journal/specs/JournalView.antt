@@ -4,7 +4,7 @@ use Rattle.std.specs.declared.alloc.Global.{Global}
 use Rattle.journal.specs.Forms.{EntryForm}
 use Rattle.journal.specs.Layout.{length_size, record_head}
 use Rattle.journal.specs.Records.{Area, record_of, records}
-use Rattle.journal.specs.Reading.{group_of}
+use Rattle.journal.specs.Spelling.{group_of}
 
 -- its area, and the groups whose records it has scanned or appended
 pub record JournalView (E : Type 0) : Type 0 where

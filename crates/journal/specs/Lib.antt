@@ -3,10 +3,6 @@ pub mod Forms
 pub mod Spelling
 pub mod Records
 pub mod JournalView
-pub mod Reading
-pub mod Ops
-pub mod Readers
-pub mod OpReaders
 pub mod ChangeForm
 pub mod RequestForm
 pub mod Scanning

@@ -1,71 +1,47 @@
 -- Accepted requests as entries, each with its session and ticket: the journal of layout 2.
-use Rattle.std.specs.Prelude.{◌≡◌, ◌<◌, ◌≤◌, ◌+◌, ◌^◌, ℕ, List, [], ◌∷◌, ◌++◌, length, Option, Some, None}
+use Rattle.std.proofs.Common.{◌≡◌, ℕ, ◌+◌, List, length, Option, Some, refl, arith, length-append}
 use Rattle.std.specs.Int.{w64, to_be_bytes}
-use Rattle.std.proofs.Common.{arith, ap, subst, ◌∙◌, append_assoc, length-append}
 use Rattle.requests.specs.declared.request.Request.{Request}
 use Rattle.graph_edits.specs.declared.edits.Op.{Op}
-use Rattle.journal.specs.Forms.{IsBytes, Takes, EntryForm, IsForm}
+use Rattle.byte_forms.specs.Forms.{FormOf, IsForm as IsByteForm}
+use Rattle.byte_forms.specs.FormLaws.{byte_form, byte_is_form, same_is_form, then_form, then_is_form, u64_form, u64_is_form}
+use Rattle.byte_forms.specs.Reading.{made_at}
+use Rattle.journal.specs.Forms.{EntryForm, IsForm, entries_as}
 use Rattle.journal.specs.Layout.{least_request, most_request}
-use Rattle.journal.specs.Ops.{change_text, change_at, IsChange}
-use Rattle.journal.specs.Reading.{◌>>=◌, number_at}
-use Rattle.journal.specs.Readers.{IsBytes-rest, bind_some, some_is, Takes-then, long}
-use Rattle.journal.specs.OpReaders.{change_reader, change_sizes, bind_is}
+use Rattle.journal.specs.ChangeForm.{length_ops, ops_form, ops_is_form}
 
--- a request: its session, its ticket, and its change
-abbrev pub request_text : Request → List ℕ
-request_text request = request.session ∷ to_be_bytes w64 request.ticket ++ change_text request.change
+-- a request's session, one byte, its ticket, eight, and its change
+abbrev pub parts_form : FormOf (ℕ × (ℕ × List Op))
+parts_form = then_form byte_form (then_form u64_form ops_form)
 
--- what an accepted request may be, as an entry: its numbers fit their fields
-pub record IsRequest (request : Request) : Type 0 where
-  pub session : request.session < 2 ^ 8
-  pub ticket : request.ticket < 2 ^ 64
-  pub change : IsChange request.change
+abbrev pub parts_of : Request → ℕ × (ℕ × List Op)
+parts_of request = (request.session, (request.ticket, request.change))
+
+abbrev pub request_of : ℕ × (ℕ × List Op) → Request
+request_of x = record { session = x.0; ticket = x.1.0; change = x.1.1 }
 
 -- a request, and the bytes after it
 unfoldable pub request_at : List ℕ → Option (Request × List ℕ)
-request_at [] = None
-request_at (session ∷ rest) = do
-  ticket ← number_at w64 rest
-  change ← change_at ticket.1
-  Some (record { session = session; ticket = ticket.0; change = change.0 }, change.1)
+request_at bytes = made_at parts_form.at (λ x. Some (request_of x)) bytes
 
--- an entry is a request, and its text the request's own
+-- a request: its parts
+abbrev pub request_bytes : FormOf Request
+request_bytes = record { text = λ request. parts_form.text (parts_of request); Fits = λ request. parts_form.Fits (parts_of request); at = request_at }
+
 abbrev pub request_form : EntryForm Request
-request_form = record { text = request_text; IsEntry = IsRequest; at = request_at; least = least_request; most = most_request }
+request_form = entries_as request_bytes least_request most_request
 
-request_takes : (bytes : List ℕ) (x : Request × List ℕ) → IsBytes bytes → request_at bytes ≡ Some x → Takes bytes (request_text x.0) x.1 × IsRequest x.0
+request_bytes_are_form : IsByteForm request_bytes
 unfolding request_at
-request_takes [] x fits e = absurd cc
-request_takes (session ∷ rest) x fits e =
-    let made : ℕ × List ℕ → List Op × List ℕ → Request × List ℕ = λ ticket change. (record { session = session; ticket = ticket.0; change = change.0 }, change.1) in
-    let t = bind_some (number_at w64 rest) (λ ticket. change_at ticket.1 >>= λ change. Some (made ticket change)) x e in
-    let c = bind_some (change_at t.0.1) (λ change. Some (made t.0 change)) x t.2 in
-    let tt = long.takes rest t.0 (IsBytes-rest session rest fits) t.1 in
-    let tc = change_reader.takes t.0.1 c.0 tt.0.rest_fits c.1 in
-    let all = Takes-then rest (to_be_bytes w64 t.0.0) t.0.1 (change_text c.0.0) c.0.1 tt.0 tc.0 in
-    let text : Takes (session ∷ rest) (request_text (made t.0 c.0).0) c.0.1 = record { parts = ap (λ (l : List ℕ). session ∷ l) all.parts; rest_fits = all.rest_fits } in
-    let is : IsRequest (made t.0 c.0).0 = record { session = omega (arith, fits 0); ticket = tt.1; change = tc.1 } in
-    subst (λ (y : Request × List ℕ). Takes (session ∷ rest) (request_text y.0) y.1 × IsRequest y.0) (some_is (made t.0 c.0) x c.2) (text, is)
+request_bytes_are_form = same_is_form (then_is_form byte_is_form (then_is_form u64_is_form ops_is_form)) request_of parts_of (λ x. refl) (λ request. refl)
 
-request_again : (request : Request) (rest : List ℕ) → IsRequest request → request_at (request_text request ++ rest) ≡ Some (request, rest)
-unfolding request_at
-request_again request rest is =
-    let made : ℕ × List ℕ → List Op × List ℕ → Request × List ℕ = λ ticket change. (record { session = request.session; ticket = ticket.0; change = change.0 }, change.1) in
-    let second : ℕ × List ℕ → Option (Request × List ℕ) = λ ticket. change_at ticket.1 >>= λ change. Some (made ticket change) in
-    let behind = change_text request.change ++ rest in
-    let regrouped : (to_be_bytes w64 request.ticket ++ change_text request.change) ++ rest ≡ to_be_bytes w64 request.ticket ++ behind = append_assoc (to_be_bytes w64 request.ticket) (change_text request.change) rest in
-    ap (λ (l : List ℕ). number_at w64 l >>= second) regrouped
-    ∙ bind_is (number_at w64 (to_be_bytes w64 request.ticket ++ behind)) (request.ticket, behind) second (long.again request.ticket behind is.ticket)
-    ∙ bind_is (change_at behind) (request.change, rest) (λ change. Some (made (request.ticket, behind) change)) (change_reader.again request.change rest is.change)
-
-pub length_request : (request : Request) → length (request_text request) ≡ 9 + length (change_text request.change)
-length_request request = omega (arith, length-append (to_be_bytes w64 request.ticket) (change_text request.change))
-
-request_sizes : (request : Request) → IsRequest request → (least_request ≤ length (request_text request)) × (length (request_text request) ≤ most_request)
-request_sizes request is =
-    let change = change_sizes request.change is.change in
-    (omega (arith, length_request request, change.0), omega (arith, length_request request, change.1))
+pub length_request : (request : Request) → length (request_form.text request) ≡ 9 + length (ops_form.text request.change)
+length_request request = omega (arith, length-append (to_be_bytes w64 request.ticket) (ops_form.text request.change))
 
 -- a request has one text, and a text that is read is one request's
 pub request_is_form : IsForm request_form
-request_is_form = record { reader = record { takes = request_takes; again = request_again }; sizes = request_sizes; small = omega arith }
+request_is_form = record {
+  reader = request_bytes_are_form;
+  sizes = λ request fits. (omega (arith, length_request request, length_ops request.change, fits.1.1.0), omega (arith, length_request request, length_ops request.change, fits.1.1.1));
+  small = omega arith;
+}

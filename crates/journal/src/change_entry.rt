@@ -1,6 +1,5 @@
 //! Accepted changes as entries: the journal of layout 1.
 ghost use Rattle.std.specs.Prelude.{◌≡◌, length};
-ghost use Rattle.journal.specs.Ops.{change_text};
 ghost use Rattle.journal.specs.ChangeForm.{change_form, change_is_form};
 
 use crate::entry::Entry;

@@ -1,10 +1,12 @@
 //! What the list of an area is made of.
 ghost use Rattle.std.specs.Prelude.{◌≡◌, ◌≤◌, ◌++◌, length, OnOk};
-ghost use Rattle.journal.specs.Forms.{EntryForm, IsForm};
-ghost use Rattle.journal.specs.Reading.{Gives};
+ghost use Rattle.byte_forms.specs.Reading.{Finds};
+ghost use Rattle.journal.specs.Forms.{EntryForm, IsForm, bytes_form};
 
 use crate::layout::MOST_ENTRY;
+use byte_forms::Form;
 use std::alloc::AllocError;
+use std::marker::PhantomData;
 
 /// One element of the list that an area spells. It has one text, which shows where it ends.
 ///
@@ -26,8 +28,29 @@ pub trait Entry: Drop + Sized {
 
     /// The entry at the front, and the bytes after it. It takes no memory.
     fn read(bytes: &[u8]) -> Option<(Self, &[u8])>
-        ensures { Gives (λ x. (x.0, x.1.now)) result (form.at bytes.now) };
+        ensures { Finds (λ x. (x.0, x.1.now)) result (form.at bytes.now) };
 
     /// Reading gives back exactly the text, and only that.
     ghost is_form: { IsForm form };
+}
+
+/// Entries as bytes.
+pub(crate) struct Entries<E> {
+    of: PhantomData<E>,
+}
+
+impl<E: Entry> Form for Entries<E> {
+    type Value = E;
+
+    ghost form = { bytes_form E.form };
+
+    fn put(value: &E, out: &mut Vec<u8>) -> Result<(), AllocError> {
+        value.put(out)
+    }
+
+    fn take(bytes: &[u8]) -> Option<(E, &[u8])> {
+        E::read(bytes)
+    }
+
+    ghost is_form = { E.is_form.reader };
 }

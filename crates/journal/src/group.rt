@@ -1,59 +1,17 @@
 //! A group of entries, as a payload.
-ghost use Rattle.std.specs.Prelude.{◌≡◌, ◌≤◌, List, length, IfOk, OnOk, Some};
+ghost use Rattle.std.specs.Prelude.{◌≡◌, ◌≤◌, length, IfOk, OnOk};
+ghost use Rattle.byte_forms.specs.Reading.{GivesOr};
 ghost use Rattle.journal.specs.Records.{text_behind};
-ghost use Rattle.journal.specs.Spelling.{IsGroup, payload_of};
-ghost use Rattle.journal.specs.Reading.{GivesOr, items_at, group_of};
-ghost use Rattle.journal.specs.declared.group.ReadError.TheVariants.{Memory};
+ghost use Rattle.journal.specs.Spelling.{IsGroup, group_of, payload_of};
 
-use crate::entry::Entry;
-use crate::fields::u16_at;
+use crate::entry::{Entries, Entry};
 use crate::layout::{CLOSED_GATE, COUNT_SIZE, GATE_SIZE, LENGTH_SIZE, MOST_ENTRIES, MOST_PAYLOAD};
-use std::alloc::{AllocError, AllocFailed, Global};
+use byte_forms::{ReadError, items_of, put_u16, put_u32, u16_at};
+use std::alloc::{AllocError, Global};
 
-/// Why a payload can't be read.
-#[derive(Clone, Copy, Debug, PartialEq, Eq, Drop)]
-pub(crate) enum ReadError {
-    Malformed,
-    Memory,
-}
-
-impl From<AllocError> for ReadError {
-    ghost from_gives = { λ _ e. e ≡ Memory };
-
-    fn from(_: AllocError) -> Self {
-        ReadError::Memory
-    }
-}
-
-impl<T: Drop> From<AllocFailed<T>> for ReadError {
-    ghost from_gives = { λ _ e. e ≡ Memory };
-
-    fn from(_: AllocFailed<T>) -> Self {
-        ReadError::Memory
-    }
-}
-
-fn read_entries<E: Entry>(
-    alloc: Global,
-    count: usize,
-    bytes: &[u8],
-) -> Result<(Vec<E>, &[u8]), ReadError>
-    ensures { GivesOr (λ x. (x.0.items, x.1.now)) result (items_at E.form.at count bytes.now) }
-{
-    let mut entries = Vec::new(alloc);
-    let mut rest = bytes;
-    for _ in 0..count {
-        let Some((entry, after)) = E::read(rest) else {
-            return Err(ReadError::Malformed);
-        };
-        entries.push(entry)?;
-        rest = after;
-    }
-    Ok((entries, rest))
-}
-
-#[tactic(auto, unfolding(crate::specs::Reading::group_of))]
-fn read_all<E: Entry>(alloc: Global, bytes: &[u8]) -> Result<Vec<E>, ReadError>
+/// The group that the bytes are the payload of.
+#[tactic(auto, unfolding(crate::specs::Spelling::group_of))]
+pub(crate) fn read_group<E: Entry>(alloc: Global, bytes: &[u8]) -> Result<Vec<E>, ReadError>
     ensures { GivesOr (λ v. v.items) result (group_of E.form bytes.now) }
 {
     let (count, rest) = u16_at(bytes).ok_or(ReadError::Malformed)?;
@@ -61,20 +19,11 @@ fn read_all<E: Entry>(alloc: Global, bytes: &[u8]) -> Result<Vec<E>, ReadError>
     if count < 1 || count > MOST_ENTRIES {
         return Err(ReadError::Malformed);
     }
-    let (entries, rest) = read_entries(alloc, count, rest)?;
+    let (entries, rest) = items_of::<Entries<E>>(alloc, count, rest)?;
     if !rest.is_empty() {
         return Err(ReadError::Malformed);
     }
     Ok(entries)
-}
-
-/// The group that the bytes are the payload of.
-pub(crate) fn read_group<E: Entry>(alloc: Global, bytes: &[u8]) -> Result<Vec<E>, ReadError>
-    ensures found { IfOk result (λ v. IsGroup E.form v.items × (bytes.now ≡ payload_of E.form v.items)) }
-    ensures only { (group : List E) → IsGroup E.form group → bytes.now ≡ payload_of E.form group
-        → GivesOr (λ v. v.items) result (Some group) }
-{
-    read_all(alloc, bytes)
 }
 
 /// How long a group's payload is.
@@ -100,8 +49,8 @@ pub(crate) fn text_of<E: Entry>(alloc: Global, entries: &[E]) -> Result<Vec<u8>,
 {
     let len = payload_len(entries);
     let mut text = Vec::with_capacity(alloc, LENGTH_SIZE + len + GATE_SIZE)?;
-    text.extend_from_slice(&(len as u32).to_be_bytes())?;
-    text.extend_from_slice(&(entries.len() as u16).to_be_bytes())?;
+    put_u32(&mut text, len as u32)?;
+    put_u16(&mut text, entries.len() as u16)?;
     for entry in entries {
         entry.put(&mut text)?;
     }

@@ -8,10 +8,11 @@ ghost use Rattle.journal.specs.declared.journal.AppendRefused.TheVariants.{Memor
 
 use crate::area::Area;
 use crate::entry::Entry;
-use crate::group::{ReadError, payload_len, text_of};
+use crate::group::{payload_len, text_of};
 use crate::layout::{GATE_SIZE, MOST_ENTRIES, MOST_RECORD, RECORD_HEAD};
 use crate::record::next_record;
 use crate::window::Window;
+use byte_forms::ReadError;
 use disk_trait::{Disk, Log, publish};
 use std::alloc::{AllocError, AllocFailed, Global};
 use std::marker::Model;

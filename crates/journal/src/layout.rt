@@ -29,14 +29,7 @@ pub const COUNT_SIZE: usize = 2;
 /// The number of ops of a change, one byte.
 pub const CHANGE_HEAD: usize = 1;
 
-/// Where an op's fields begin behind its kind: two nodes, each a `u16`, and the weight, a `u32`.
-pub const OP_FIRST: usize = 1;
-
-pub const OP_SECOND: usize = 3;
-
-pub const OP_WEIGHT: usize = 5;
-
-/// An op.
+/// An op: its kind, two nodes, each a `u16`, and the weight, a `u32`.
 pub const OP_SIZE: usize = 9;
 
 /// The most entries of a group. The fewest are 1.

@@ -32,7 +32,6 @@
 mod area;
 mod change_entry;
 mod entry;
-mod fields;
 mod group;
 mod journal;
 mod laws;

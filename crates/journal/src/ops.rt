@@ -1,14 +1,36 @@
 //! Ops and changes, and their bytes.
-ghost use Rattle.std.specs.Prelude.{◌≡◌, ◌≤◌, ◌++◌, length, OnOk, IfSome};
-ghost use Rattle.journal.specs.Ops.{IsOp, IsChange, op_text, op_of, op_at, change_text, change_at};
-ghost use Rattle.journal.specs.Reading.{Gives, items_at};
+ghost use Rattle.std.specs.Prelude.{◌≡◌, ◌++◌, OnOk};
+ghost use Rattle.byte_forms.specs.Reading.{Finds};
+ghost use Rattle.journal.specs.ChangeForm.{op_of, op_at, op_form, op_is_form, ops_form};
 
-use crate::fields::{u16_at, u32_at};
-use crate::layout::{ADD, CUT, OP_FIRST, OP_SECOND, OP_SIZE, OP_WEIGHT, SET};
-use arrayvec::ArrayVec;
-use byteorder::{BigEndian, ByteOrder};
+use crate::layout::{ADD, CUT, SET};
+use byte_forms::{Form, put_u16, put_u32, short_of, u8_at, u16_at, u32_at};
 use graph_edits::{Change, MOST_OPS, Op};
 use std::alloc::AllocError;
+
+/// Ops: the kind, two nodes, and the weight.
+pub(crate) struct OpForm;
+
+impl Form for OpForm {
+    type Value = Op;
+
+    ghost form = { op_form };
+
+    fn put(value: &Op, out: &mut Vec<u8>) -> Result<(), AllocError> {
+        put_op(out, *value)
+    }
+
+    #[tactic(auto, unfolding(crate::specs::ChangeForm::op_at))]
+    fn take(bytes: &[u8]) -> Option<(Op, &[u8])> {
+        let (kind, rest) = u8_at(bytes)?;
+        let (a, rest) = u16_at(rest)?;
+        let (b, rest) = u16_at(rest)?;
+        let (weight, rest) = u32_at(rest)?;
+        Some((op_from(kind, a, b, weight)?, rest))
+    }
+
+    ghost is_form = { op_is_form };
+}
 
 fn op_from(kind: u8, a: u16, b: u16, weight: u32) -> Option<Op>
     ensures { result ≡ op_of kind a b weight }
@@ -21,63 +43,26 @@ fn op_from(kind: u8, a: u16, b: u16, weight: u32) -> Option<Op>
     }
 }
 
-#[tactic(auto, unfolding(crate::specs::Ops::op_at))]
-fn read_op(bytes: &[u8]) -> Option<(Op, &[u8])>
-    ensures { Gives (λ x. (x.0, x.1.now)) result (op_at bytes.now) }
-{
-    let (kind, rest) = bytes.split_first()?;
-    let (a, rest) = u16_at(rest)?;
-    let (b, rest) = u16_at(rest)?;
-    let (weight, rest) = u32_at(rest)?;
-    let op = op_from(*kind, a, b, weight)?;
-    Some((op, rest))
-}
-
 fn put_op(out: &mut Vec<u8>, op: Op) -> Result<(), AllocError>
-    ensures text { OnOk result (out.new.items ≡ out.old.items ++ op_text op) }
-    ensures is_op { IsOp op }
+    ensures text { OnOk result (out.new.items ≡ out.old.items ++ op_form.text op) }
+    ensures is_op { op_form.Fits op }
 {
     let (kind, a, b, weight) = match op {
         Op::Add(a, b, weight) => (ADD, a, b, weight),
         Op::Set(a, b, weight) => (SET, a, b, weight),
         Op::Cut(a, b) => (CUT, a, b, 0),
     };
-    let mut text = [0; OP_SIZE];
-    text[0] = kind;
-    BigEndian::write_u16(&mut text[OP_FIRST..OP_SECOND], a);
-    BigEndian::write_u16(&mut text[OP_SECOND..OP_WEIGHT], b);
-    BigEndian::write_u32(&mut text[OP_WEIGHT..OP_SIZE], weight);
-    out.extend_from_slice(&text)?;
-    Ok(())
-}
-
-// What comes next, as so many ops.
-fn read_ops(count: usize, bytes: &[u8]) -> Option<(ArrayVec<Op, MOST_OPS>, &[u8])>
-    requires { count ≤ MOST_OPS }
-    ensures ops { Gives (λ x. (x.0.items, x.1.now)) result (items_at op_at count bytes.now) }
-    ensures len { IfSome result (λ x. length x.0.items ≡ count) }
-{
-    let mut ops = ArrayVec::new();
-    let mut rest = bytes;
-    for _ in 0..count {
-        let (op, after) = read_op(rest)?;
-        ops.push(op);
-        rest = after;
-    }
-    Some((ops, rest))
+    out.push(kind)?;
+    put_u16(out, a)?;
+    put_u16(out, b)?;
+    put_u32(out, weight)
 }
 
 /// The change at the front, and the bytes after it.
-#[tactic(auto, unfolding(crate::specs::Ops::change_at))]
 pub(crate) fn read_change(bytes: &[u8]) -> Option<(Change, &[u8])>
-    ensures { Gives (λ x. (x.0, x.1.now)) result (change_at bytes.now) }
+    ensures { Finds (λ x. (x.0, x.1.now)) result (ops_form.at bytes.now) }
 {
-    let (count, rest) = bytes.split_first()?;
-    let count = *count as usize;
-    if count < 1 || count > MOST_OPS {
-        return None;
-    }
-    let (ops, rest) = read_ops(count, rest)?;
+    let (ops, rest) = short_of::<OpForm, MOST_OPS>(1, bytes)?;
     match Change::new(ops.as_slice()) {
         Ok(change) => Some((change, rest)),
         Err(_) => None,
@@ -86,8 +71,8 @@ pub(crate) fn read_change(bytes: &[u8]) -> Option<(Change, &[u8])>
 
 /// Puts the text of a change at the end.
 pub(crate) fn put_change(out: &mut Vec<u8>, change: &Change) -> Result<(), AllocError>
-    ensures text { OnOk result (out.new.items ≡ out.old.items ++ change_text change.now) }
-    ensures is_change { OnOk result (IsChange change.now) }
+    ensures text { OnOk result (out.new.items ≡ out.old.items ++ ops_form.text change.now) }
+    ensures is_change { OnOk result (ops_form.Fits change.now) }
 {
     let ops = change.ops();
     out.push(ops.len() as u8)?;

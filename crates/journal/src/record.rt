@@ -4,9 +4,9 @@ ghost use Rattle.journal.specs.Layout.{open_gate};
 ghost use Rattle.journal.specs.Scanning.{IsNextRecord, HasNoRecord};
 
 use crate::entry::Entry;
-use crate::fields::u32_at;
-use crate::group::{ReadError, read_group};
+use crate::group::read_group;
 use crate::layout::{OPEN_GATE, RECORD_HEAD};
+use byte_forms::{ReadError, u32_at};
 use std::alloc::Global;
 
 /// The group whose record the bytes begin with and the record's size; none where the gate is closed. A record counts

@@ -3,9 +3,9 @@ ghost use Rattle.std.specs.Prelude.{◌≡◌, length};
 ghost use Rattle.journal.specs.RequestForm.{request_form, request_is_form};
 
 use crate::entry::Entry;
-use crate::fields::u64_at;
 use crate::layout::{OP_SIZE, REQUEST_HEAD};
 use crate::ops::{put_change, read_change};
+use byte_forms::{put_u64, u8_at, u64_at};
 use requests::Request;
 use std::alloc::AllocError;
 
@@ -19,17 +19,17 @@ impl Entry for Request {
     fn put(&self, out: &mut Vec<u8>) -> Result<(), AllocError> {
         let (session, ticket) = (self.session, self.ticket);
         out.push(session)?;
-        out.extend_from_slice(&ticket.to_be_bytes())?;
+        put_u64(out, ticket)?;
         put_change(out, &self.change)
     }
 
     #[tactic(auto, unfolding(crate::specs::RequestForm::request_at))]
     fn read(bytes: &[u8]) -> Option<(Request, &[u8])> {
-        let (session, rest) = bytes.split_first()?;
+        let (session, rest) = u8_at(bytes)?;
         let (ticket, rest) = u64_at(rest)?;
         let (change, rest) = read_change(rest)?;
         let request = Request {
-            session: *session,
+            session,
             ticket,
             change,
         };

@@ -1,9 +1,10 @@
 -- A checkpoint's text as its head, its tickets and its edges.
-use Rattle.std.proofs.Common.{◌≡◌, ℕ, ◌+◌, ◌*◌, ◌^◌, ◌<◌, ◌≤◌, List, [], ◌++◌, length, take, drop, refl, sym, ◌∙◌, ap, subst, arith}
-use Rattle.std.specs.Int.{w16, w32, w64, to_be_bytes, from_be_bytes}
+use Rattle.std.proofs.Common.{◌≡◌, ℕ, ◌+◌, ◌*◌, ◌^◌, ◌<◌, ◌≤◌, List, ◌++◌, length, take, drop, refl, sym, ◌∙◌, ap, subst, arith}
+use Rattle.std.specs.Int.{w16, to_be_bytes, from_be_bytes}
 use Rattle.std.specs.FinMap.{entries}
-use Rattle.std.proofs.lemmas.List.{take_at, drop_at, append-nil, take-take, drop-take, drop-drop}
+use Rattle.std.proofs.lemmas.List.{take_at, drop_at, take-take, drop-take, drop-drop}
 use Rattle.std.proofs.lemmas.Nat.{from_be_bytes-to_be_bytes_2}
+use Rattle.byte_forms.specs.FormLaws.{one_value}
 use Rattle.disk_trait.specs.Disk.{bytes_at}
 use Rattle.disk_trait.specs.Places.{both}
 use Rattle.requests.specs.Tickets.{worn_limit}
@@ -18,7 +19,7 @@ use Rattle.layout_parts.specs.State.{State}
 use Rattle.layout_parts.specs.Slots.{HasCheckpoint}
 use Rattle.layout_parts.specs.Standing.{StandsBy, StandsFor}
 use Rattle.layout_parts.proofs.Texts.{length_text}
-use Rattle.layout_parts.proofs.Codes.{two, four, eight}
+use Rattle.layout_parts.proofs.Codes.{Head, head_is_form}
 use Rattle.layout_parts.proofs.Folds.{after_count}
 use Rattle.layout_parts.proofs.OneStateLemmas.{behind}
 use Rattle.layout_parts.proofs.NewestLemmas.{same_slot}
@@ -75,15 +76,11 @@ module _ {E T : Type 0} {F : EntryForm E} (form : LayoutForm F T) (laws : IsLayo
     pub same_head : (gate epoch count nodes edges : ℕ) → epoch < 2 ^ 64 → count < 2 ^ 64 → nodes < 2 ^ 16 → edges < 2 ^ 32 → base.count < 2 ^ 64 → HasHeadIn (slot_room form.sizes) slot gate epoch count nodes edges image → IsSameHead epoch count nodes edges epoch' base
     same_head gate epoch count nodes edges le lc ln lm lb head =
         let same : head_text epoch count nodes edges ≡ own_head epoch' base = sym head.text ∙ own_head_there in
-        let m = to_be_bytes w32 edges in
-        let m' = to_be_bytes w32 (size_of base) in
-        let n = to_be_bytes w16 nodes ++ m in
-        let n' = to_be_bytes w16 base.graph.nodes ++ m' in
-        let a = eight.apart epoch epoch' (to_be_bytes w64 count ++ n) (to_be_bytes w64 base.count ++ n') le (omega (arith, by.epoch_fits)) same in
-        let b = eight.apart count base.count n n' lc lb a.1 in
-        let c = two.apart nodes base.graph.nodes m m' ln (omega (arith, by.lawful.few_nodes, laws.fit.nodes)) b.1 in
-        let d = four.apart edges (size_of base) [] [] lm (omega (arith, by.lawful.few_edges, laws.fit.edges)) (append-nil m ∙ c.1 ∙ sym (append-nil m')) in
-        record { same_epoch = a.0; same_count = b.0; same_nodes = c.0; same_edges = d.0 }
+        let theirs : Head = (epoch, (count, (nodes, edges))) in
+        let ours : Head = (epoch', (base.count, (base.graph.nodes, size_of base))) in
+        let both : theirs ≡ ours = one_value head_is_form theirs ours (le, (lc, (ln, lm)))
+        (omega (arith, by.epoch_fits), (lb, (omega (arith, by.lawful.few_nodes, laws.fit.nodes), omega (arith, by.lawful.few_edges, laws.fit.edges)))) same in
+        record { same_epoch = ap (λ (h : Head). h.0) both; same_count = ap (λ (h : Head). h.1.0) both; same_nodes = ap (λ (h : Head). h.1.1.0) both; same_edges = ap (λ (h : Head). h.1.1.1) both }
 
   -- a head, tickets and edges behind it are a checkpoint's text
   pub has_text : (slot gate epoch : ℕ) (base : State T) (edges nodes : ℕ) (image : List ℕ) → HasHeadIn (slot_room form.sizes) slot gate epoch base.count nodes edges image → nodes ≡ base.graph.nodes → edges ≡ size_of base → form.AreTickets base.tickets

@@ -8,6 +8,7 @@ use Rattle.std.specs.FinMap.{get, insert, len, empty, len-empty, is_sorted, entr
 use Rattle.std.proofs.lemmas.List.{append-nil, take-append-drop}
 use Rattle.std.proofs.lemmas.List.Concat.{flat_map-append, flat_map-cons}
 use Rattle.std.proofs.lemmas.Bool.Decides.{nat_tests}
+use Rattle.byte_forms.specs.FormLaws.{apart}
 use Rattle.graph_edits.specs.declared.edits.Op.TheVariants.{Add}
 use Rattle.graph_edits.specs.Changes.{refusal, refusal_at}
 use Rattle.graph_edits.specs.Edges.{EdgeMap, Network, pair_cmp, weight_between, greatest_weight, most_edges}
@@ -15,7 +16,7 @@ use Rattle.graph_edits.proofs.EdgesOfRows.{pair_total}
 use Rattle.graph_edits.proofs.EdgeRows.{pair_in_order}
 use Rattle.layout_parts.specs.Ascending.{AllBelow, IsBefore, IsAfterLast, last_key}
 use Rattle.layout_parts.specs.EdgeTexts.{edge_text, edges_text, IsEdge}
-use Rattle.layout_parts.proofs.Codes.{FitsEdge, edge, Continues, continues}
+use Rattle.layout_parts.proofs.Codes.{edge_form, edge_is_form, Continues, continues}
 use Rattle.layout_parts.proofs.Entries.{put_last, find_none, above_last, below_sorted, last_below}
 use Rattle.layout_parts.proofs.Maps.{edges_fit}
 
@@ -100,14 +101,14 @@ no_entries = nothing (entries (empty {K = ℕ × ℕ} {X = ℕ} {R = pair_cmp}))
 -- ---- the next edge of a lawful map
 
 pub next_is : (n : ℕ) → n ≤ 2 ^ 16 → (map : EdgeMap) (es : List ((ℕ × ℕ) × ℕ)) (e : (ℕ × ℕ) × ℕ) (behind bytes : List ℕ) → AllByRecursion (λ e. IsEdge n e) (entries map) → edges_text map ≡ bytes
-    → AllByRecursion (λ e. IsEdge n e) es → flat_map edge_text es ++ (edge_text e ++ behind) ≡ bytes → FitsEdge e → IsEdge n e × IsAfterLast (last_key es) e.0
+    → AllByRecursion (λ e. IsEdge n e) es → flat_map edge_text es ++ (edge_text e ++ behind) ≡ bytes → edge_form.Fits e → IsEdge n e × IsAfterLast (last_key es) e.0
 next_is n few map es e behind bytes lawful text each so_far fits = by (continues es (entries map) (edge_text e ++ behind) (edges_fit n few es each) (edges_fit n few (entries map) lawful) (so_far ∙ sym text))
   where
     found : (g : (ℕ × ℕ) × ℕ) (gs : List ((ℕ × ℕ) × ℕ)) → entries map ≡ es ++ g ∷ gs → edge_text e ++ behind ≡ flat_map edge_text (g ∷ gs) → IsEdge n e × IsAfterLast (last_key es) e.0
     found g gs list bytes_are =
         let all : AllByRecursion (λ e. IsEdge n e) (es ++ g ∷ gs) = subst (AllByRecursion (λ e. IsEdge n e)) list lawful in
         let is_g = all_at n es gs g all in
-        let one = edge.apart e g behind (flat_map edge_text gs) fits ((edges_fit n few (g ∷ []) (is_g, tt)).0) (bytes_are ∙ flat_map-cons edge_text g gs) in
+        let one = apart edge_is_form e g behind (flat_map edge_text gs) fits ((edges_fit n few (g ∷ []) (is_g, tt)).0) (bytes_are ∙ flat_map-cons edge_text g gs) in
         let sorted : T (is_sorted pair_cmp (es ++ g ∷ gs)) = subst (λ (l : List ((ℕ × ℕ) × ℕ)). T (is_sorted pair_cmp l)) list (entries_sorted map) in
         let below : AllBelow pair_cmp g.0 es = below_sorted pair_cmp g.0 g.1 es gs sorted in
         subst (λ h. IsEdge n h × IsAfterLast (last_key es) h.0) (sym one.0) (is_g, comes_after es (last_key es) g.0 below refl)

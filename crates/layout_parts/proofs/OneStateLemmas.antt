@@ -1,10 +1,11 @@
 -- An image stands for at most one state.
 use Rattle.std.proofs.Common.{◌≡◌, ◌≢◌, inl, inr, ℕ, zero, suc, ◌+◌, ◌^◌, ◌<◌, ◌≤◌, List, ◌++◌, length, get_or, take, drop, Some, refl, sym, ◌∙◌, ap, subst, arith, append_assoc}
-use Rattle.std.specs.Int.{w16, w32, w64, to_be_bytes, from_be_bytes}
+use Rattle.std.specs.Int.{w64, to_be_bytes, from_be_bytes}
 use Rattle.std.specs.FinMap.{entries, same_entries_map}
 use Rattle.std.proofs.lemmas.List.{take_at, drop_at, take-append-drop}
 use Rattle.std.proofs.lemmas.Nat.{from_be_bytes-to_be_bytes_8}
 use Rattle.std.proofs.lemmas.Bool.{cases_eq}
+use Rattle.byte_forms.specs.FormLaws.{apart, items_is_form}
 use Rattle.graph_edits.specs.Edges.{EdgeMap}
 use Rattle.requests.specs.Tickets.{worn_limit}
 use Rattle.journal.specs.Forms.{EntryForm}
@@ -16,7 +17,7 @@ use Rattle.layout_parts.specs.Sizes.{slot_start, journal_of, epoch_at}
 use Rattle.layout_parts.specs.Forms.{LayoutForm, IsLayoutForm}
 use Rattle.layout_parts.specs.State.{State, state_with, after, state_text, checkpoint_text, IsLawful}
 use Rattle.layout_parts.specs.Standing.{StandsBy, StandsFor}
-use Rattle.layout_parts.proofs.Codes.{two, four, eight, edges_apart}
+use Rattle.layout_parts.proofs.Codes.{Head, head_is_form, edge_is_form}
 use Rattle.layout_parts.proofs.Results.{some_is}
 use Rattle.layout_parts.proofs.Folds.{after_count}
 use Rattle.layout_parts.proofs.Maps.{all_edges, edges_fit}
@@ -54,27 +55,21 @@ module _ {E T : Type 0} {F : EntryForm E} (form : LayoutForm F T) (laws : IsLayo
   text_apart epoch later s t x y le ll is_s is_t same =
       let es = entries s.graph.edges in
       let fs = entries t.graph.edges in
-      let e4 = edges_text s.graph.edges in
-      let f4 = edges_text t.graph.edges in
-      let et = form.tickets_text s.tickets ++ e4 in
-      let ft = form.tickets_text t.tickets ++ f4 in
-      let e3 = to_be_bytes w32 (length es) ++ et in
-      let f3 = to_be_bytes w32 (length fs) ++ ft in
-      let e2 = to_be_bytes w16 s.graph.nodes ++ e3 in
-      let f2 = to_be_bytes w16 t.graph.nodes ++ f3 in
+      let text_s = edges_text s.graph.edges in
+      let text_t = edges_text t.graph.edges in
       let few_s : s.graph.nodes < 2 ^ 16 = omega (arith, is_s.lawful.few_nodes, laws.fit.nodes) in
       let few_t : t.graph.nodes < 2 ^ 16 = omega (arith, is_t.lawful.few_nodes, laws.fit.nodes) in
-      let p0 = eight.apart epoch later (state_text form.tickets_text s ++ x) (state_text form.tickets_text t ++ y) le ll (sym (append_assoc (to_be_bytes w64 epoch) (state_text form.tickets_text s) x) ∙ same ∙ append_assoc (to_be_bytes w64 later) (state_text form.tickets_text t) y) in
-      let p1 = eight.apart s.count t.count (e2 ++ x) (f2 ++ y) is_s.count is_t.count (sym (append_assoc (to_be_bytes w64 s.count) e2 x) ∙ p0.1 ∙ append_assoc (to_be_bytes w64 t.count) f2 y) in
-      let p2 = two.apart s.graph.nodes t.graph.nodes (e3 ++ x) (f3 ++ y) few_s few_t (sym (append_assoc (to_be_bytes w16 s.graph.nodes) e3 x) ∙ p1.1 ∙ append_assoc (to_be_bytes w16 t.graph.nodes) f3 y) in
-      let p3 = four.apart (length es) (length fs) (et ++ x) (ft ++ y) (omega (arith, is_s.lawful.few_edges, laws.fit.edges)) (omega (arith, is_t.lawful.few_edges, laws.fit.edges)) (sym (append_assoc (to_be_bytes w32 (length es)) et x) ∙ p2.1 ∙ append_assoc (to_be_bytes w32 (length fs)) ft y) in
-      let p4 = tickets_apart s.tickets t.tickets (e4 ++ x) (f4 ++ y) is_s.tickets is_t.tickets (sym (append_assoc (form.tickets_text s.tickets) e4 x) ∙ p3.1 ∙ append_assoc (form.tickets_text t.tickets) f4 y) in
-      let list : es ≡ fs = edges_apart es fs x y p3.0 (edges_fit s.graph.nodes (omega (arith, few_s)) es (all_edges s.graph.nodes s.graph.edges is_s.lawful.each)) (edges_fit t.graph.nodes (omega (arith, few_t)) fs (all_edges t.graph.nodes t.graph.edges is_t.lawful.each)) p4.1 in
+      let head = apart head_is_form (epoch, (s.count, (s.graph.nodes, length es))) (later, (t.count, (t.graph.nodes, length fs))) ((form.tickets_text s.tickets ++ text_s) ++ x) ((form.tickets_text t.tickets ++ text_t) ++ y)
+      (le, (is_s.count, (few_s, omega (arith, is_s.lawful.few_edges, laws.fit.edges)))) (ll, (is_t.count, (few_t, omega (arith, is_t.lawful.few_edges, laws.fit.edges)))) same in
+      let tickets = tickets_apart s.tickets t.tickets (text_s ++ x) (text_t ++ y) is_s.tickets is_t.tickets (sym (append_assoc (form.tickets_text s.tickets) text_s x) ∙ head.1 ∙ append_assoc (form.tickets_text t.tickets) text_t y) in
+      let all_s = edges_fit s.graph.nodes (omega (arith, few_s)) es (all_edges s.graph.nodes s.graph.edges is_s.lawful.each) in
+      let all_t = edges_fit t.graph.nodes (omega (arith, few_t)) fs (all_edges t.graph.nodes t.graph.edges is_t.lawful.each) in
+      let list : es ≡ fs = (apart (items_is_form edge_is_form (length fs)) es fs x y (ap (λ (h : Head). h.1.1.1) head.0, all_s) (refl, all_t) tickets.1).0 in
       let edges = same_entries_map s.graph.edges t.graph.edges list in
       let same_state : s ≡ t =
-      ap (λ (k : ℕ). state_with k s.graph s.tickets) p1.0 ∙ ap (λ (k : ℕ). state_with t.count (record { nodes = k; edges = s.graph.edges }) s.tickets) p2.0
-      ∙ ap (λ (m : EdgeMap). state_with t.count (record { nodes = t.graph.nodes; edges = m }) s.tickets) edges ∙ ap (λ (ts : T). state_with t.count t.graph ts) p4.0 in
-      (p0.0, same_state)
+      ap (λ (h : Head). state_with h.1.0 (record { nodes = h.1.1.0; edges = s.graph.edges }) s.tickets) head.0
+      ∙ ap (λ (m : EdgeMap). state_with t.count (record { nodes = t.graph.nodes; edges = m }) s.tickets) edges ∙ ap (λ (ts : T). state_with t.count t.graph ts) tickets.0 in
+      (ap (λ (h : Head). h.0) head.0, same_state)
 
   module _ (slot epoch : ℕ) (base : State T) (groups : List (List E)) (image : List ℕ) (by : StandsBy form slot epoch base groups image) where
     pub behind : drop (slot_start form.sizes slot + 1) image ≡ checkpoint_text form epoch base ++ drop (length (checkpoint_text form epoch base)) (drop (slot_start form.sizes slot + 1) image)

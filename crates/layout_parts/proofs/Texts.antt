@@ -1,8 +1,8 @@
 -- The sizes of a checkpoint's text.
-use Rattle.std.proofs.Common.{◌≡◌, ℕ, ◌+◌, ◌*◌, ◌<◌, List, [], ◌∷◌, ◌++◌, length, refl, ap, ◌∙◌, arith, length-append}
+use Rattle.std.proofs.Common.{◌≡◌, ℕ, ◌+◌, ◌*◌, ◌<◌, List, ◌++◌, length, refl, arith, length-append}
 use Rattle.std.specs.List.{flat_map}
 use Rattle.std.specs.Int.{w16, w32, w64, to_be_bytes}
-use Rattle.std.proofs.lemmas.List.Concat.{flat_map-cons}
+use Rattle.byte_forms.specs.FormLaws.{length_items}
 use Rattle.std.specs.FinMap.{entries}
 use Rattle.journal.specs.Forms.{EntryForm}
 use Rattle.layout_parts.specs.EdgeTexts.{edge_text}
@@ -10,8 +10,7 @@ use Rattle.layout_parts.specs.Forms.{LayoutForm, IsLayoutForm}
 use Rattle.layout_parts.specs.State.{State, state_text, checkpoint_text, IsLawful}
 
 pub length_edges : (es : List ((ℕ × ℕ) × ℕ)) → length (flat_map edge_text es) ≡ 8 * length es
-length_edges [] = refl
-length_edges (e ∷ es) = ap length (flat_map-cons edge_text e es) ∙ omega (arith, length-append (edge_text e) (flat_map edge_text es), length_edges es)
+length_edges es = length_items edge_text 8 (λ e. refl) es
 
 module _ {E T : Type 0} {F : EntryForm E} (form : LayoutForm F T) where
   pub length_text : (epoch : ℕ) (state : State T) → length (form.tickets_text state.tickets) ≡ form.sizes.tickets_len → length (checkpoint_text form epoch state) ≡ 22 + (form.sizes.tickets_len + 8 * length (entries state.graph.edges))

@@ -1,20 +1,23 @@
 -- Ports in their places, and numbers of two bytes.
-use Rattle.std.proofs.Common.{◌≡◌, ℕ, zero, suc, ◌+◌, ◌-◌, ◌*◌, ◌<◌, ◌≤◌, Bool, true, false, ◌&&◌, eqb, List, [], ◌∷◌, ◌++◌, length, get_or, take, drop, replicate, ltb, None, refl, sym, ap, ◌∙◌, append_assoc, arith}
+use Rattle.std.proofs.Common.{◌≡◌, ℕ, zero, suc, ◌+◌, ◌-◌, ◌*◌, ◌<◌, ◌≤◌, Bool, true, false, cond, not, eqb, inl, inr, List, [], ◌∷◌, ◌++◌, length, get_or, take, drop, replicate, ltb, Option, Some, None, refl, sym, ap, ◌∙◌, append_assoc, arith}
 use Rattle.std.specs.Int.{w16, from_be_bytes, to_be_bytes}
 use Rattle.std.specs.List.{flat_map}
-use Rattle.std.proofs.lemmas.Bool.{eqb-true, le-ltb}
-use Rattle.std.proofs.lemmas.List.{take_at, drop_at, take_all, drop_all, take_more, drop_more, drop-drop, append-nil, take-append-drop, length-drop, length-append, length-take-le, replicate-append-replicate}
+use Rattle.std.proofs.lemmas.Bool.{cases_lt, eqb-true, le-leb, le-ltb, lt-ltb}
+use Rattle.std.proofs.lemmas.List.{take_at, drop_at, take_all, drop_all, take_more, drop_more, append-nil, length-drop, length-append, length-take-le, replicate-append-replicate}
 use Rattle.std.proofs.lemmas.List.Concat.{flat_map-append}
-use Rattle.std.proofs.lemmas.Nat.{be_bytes_2}
+use Rattle.std.proofs.lemmas.Option.{none-some}
 use borrow.Rule.Slice.PartMut.{put_mid}
+use Rattle.byte_forms.specs.Forms.{FormOf, IsForm}
+use Rattle.byte_forms.specs.FormLaws.{both_true, length_items, short_form, short_is_form, u16_form, u16_is_form}
+use Rattle.byte_forms.specs.Reading.{◌>>=◌, items_at, number_at, short_at}
 use Rattle.packet_bytes.specs.Layout.{most_ports, home_size}
+use Rattle.packet_bytes.specs.declared.wire.WireRefused.TheVariants.{BadCount, BadPadding}
 use Rattle.packet_bytes.specs.Refusals.{are_zeros, ports_refusal, home_refusal}
-use Rattle.packet_bytes.specs.Spelling.{places_of, ports_text}
+use Rattle.packet_bytes.specs.Spelling.{ports_text}
 
 -- two bytes a port
 pub length_ports : (ports : List ℕ) → length (flat_map (to_be_bytes w16) ports) ≡ 2 * length ports
-length_ports [] = refl
-length_ports (p ∷ ports) = omega (arith, length_ports ports)
+length_ports ports = length_items (to_be_bytes w16) 2 (λ port. refl) ports
 
 -- unused places are zeros
 pub zero_places : (n : ℕ) → flat_map (to_be_bytes w16) (replicate n 0) ≡ replicate (2 * n) 0
@@ -24,15 +27,21 @@ zero_places (suc n) =
     ap (λ (l : List ℕ). 0 ∷ 0 ∷ l) (zero_places n) ∙ ap (λ k. replicate k 0) more
 
 -- the ports, and zeros behind them
-pub places_are : (ports : List ℕ) (n : ℕ) → flat_map (to_be_bytes w16) (ports ++ replicate n 0) ≡ flat_map (to_be_bytes w16) ports ++ replicate (2 * n) 0
+places_are : (ports : List ℕ) (n : ℕ) → flat_map (to_be_bytes w16) (ports ++ replicate n 0) ≡ flat_map (to_be_bytes w16) ports ++ replicate (2 * n) 0
 places_are ports n = flat_map-append (to_be_bytes w16) ports (replicate n 0) ∙ ap (λ (l : List ℕ). flat_map (to_be_bytes w16) ports ++ l) (zero_places n)
 
-both_true : (a b : Bool) → (a && b) ≡ true → (a ≡ true) × (b ≡ true)
-both_true true b e = (refl, e)
-both_true false b e = absurd cc
+-- the ports alone
+abbrev pub ports_form : FormOf (List ℕ)
+ports_form = short_form u16_form 0 most_ports
+
+pub ports_is_form : IsForm ports_form
+ports_is_form = short_is_form u16_is_form 0 most_ports
+
+pub ports_are : (ports : List ℕ) → ports_text ports ≡ ports_form.text ports ++ replicate (2 * (most_ports - length ports)) 0
+ports_are ports = ap (λ (l : List ℕ). length ports ∷ l) (places_are ports (most_ports - length ports))
 
 -- what passes as zeros is zeros
-pub zeros_are : (bytes : List ℕ) → are_zeros bytes ≡ true → bytes ≡ replicate (length bytes) 0
+zeros_are : (bytes : List ℕ) → are_zeros bytes ≡ true → bytes ≡ replicate (length bytes) 0
 zeros_are [] e = refl
 zeros_are (b ∷ bytes) e =
     let t = both_true (eqb b 0) (are_zeros bytes) e in
@@ -43,28 +52,20 @@ pub zeros_pass : (n : ℕ) → are_zeros (replicate n 0) ≡ true
 zeros_pass zero = refl
 zeros_pass (suc n) = zeros_pass n
 
-pair_fits : (x y : ℕ) → x < 256 → y < 256 → (k : ℕ) → get_or (x ∷ y ∷ []) k 0 < 256
-pair_fits x y hx hy zero = hx
-pair_fits x y hx hy (suc zero) = hy
-pair_fits x y hx hy (suc (suc k)) = omega arith
+abbrev port_before : ℕ → List ℕ × List ℕ → Option (List ℕ × List ℕ)
+port_before port others = Some (port ∷ others.0, others.1)
 
--- two more bytes, as a number
-pub one_port_more : (bytes : List ℕ) (i : ℕ) (ports : List ℕ) → 2 * i + 1 < length bytes → ((k : ℕ) → get_or bytes k 0 < 256)
-    → take (2 * i) bytes ≡ flat_map (to_be_bytes w16) ports
-    → take (2 * (i + 1)) bytes ≡ flat_map (to_be_bytes w16) (ports ++ from_be_bytes w16 (get_or bytes (2 * i) 0 ∷ get_or bytes (2 * i + 1) 0 ∷ []) ∷ [])
-one_port_more bytes i ports lt fits before =
-    let high = get_or bytes (2 * i) 0 in
-    let low = get_or bytes (2 * i + 1) 0 in
-    let pair = high ∷ low ∷ [] in
-    let n = from_be_bytes w16 pair in
-    let end : 2 * (i + 1) ≡ 2 * i + 1 + 1 = omega arith in
-    let spelled : to_be_bytes w16 n ≡ pair = be_bytes_2 pair n refl (pair_fits high low (fits (2 * i)) (fits (2 * i + 1))) refl in
-    ap (λ k. take k bytes) end
-    ∙ take_more bytes (2 * i + 1) 0 lt
-    ∙ ap (λ (l : List ℕ). l ++ low ∷ []) (take_more bytes (2 * i) 0 (omega arith) ∙ ap (λ (l : List ℕ). l ++ high ∷ []) before)
-    ∙ append_assoc (flat_map (to_be_bytes w16) ports) (high ∷ []) (low ∷ [])
-    ∙ ap (λ (l : List ℕ). flat_map (to_be_bytes w16) ports ++ l) (sym spelled)
-    ∙ sym (flat_map-append (to_be_bytes w16) ports (n ∷ []))
+no_others : (others : Option (List ℕ × List ℕ)) (port : ℕ) → (others >>= port_before port) ≡ None → others ≡ None
+no_others None port e = refl
+no_others (Some x) port e = absurd (none-some _ (sym e))
+
+-- two bytes a port are enough
+are_found : (n : ℕ) (bytes : List ℕ) → 2 * n ≤ length bytes → items_at (number_at w16) n bytes ≡ None → ⊥
+unfolding items_at
+are_found zero bytes long none = none-some _ (sym none)
+are_found (suc n) bytes long none =
+    let found : ltb (length bytes) 2 ≡ false = le-ltb _ _ (omega (arith, long)) in
+    are_found n (drop 2 bytes) (omega (arith, long, length-drop 2 bytes)) (no_others (items_at (number_at w16) n (drop 2 bytes)) (from_be_bytes w16 (take 2 bytes)) (rw found at none))
 
 -- ---- reading
 
@@ -72,29 +73,30 @@ one_port_more bytes i ports lt fits before =
 first_and_rest : (bytes : List ℕ) → 0 < length bytes → bytes ≡ get_or bytes 0 0 ∷ drop 1 bytes
 first_and_rest bytes lt = drop_more bytes 0 0 lt
 
--- no more ports than places, and zeros behind them
-pub no_refusal : (bytes : List ℕ) → get_or bytes 0 0 ≤ most_ports → are_zeros (drop (1 + 2 * get_or bytes 0 0) bytes) ≡ true → ports_refusal bytes ≡ None
-no_refusal bytes few zeros =
-    let fits : ltb most_ports (get_or bytes 0 0) ≡ false = le-ltb _ _ few in
-    rw (fits, zeros) refl
+-- no ports are found where there are too many
+pub bad_count : (bytes : List ℕ) → length bytes ≡ 1 + 2 * most_ports → short_at (number_at w16) 0 most_ports bytes ≡ None → ports_refusal bytes ≡ Some BadCount
+unfolding short_at
+bad_count [] len none = absurd (omega (arith, len))
+bad_count (n ∷ bytes) len none =
+    elim (cases_lt most_ports n) [
+      | inl many ↦ rw (lt-ltb most_ports n many) refl
+      | inr few ↦ absurd (are_found n bytes (omega (arith, len, few)) (rw (le-leb 0 n (omega arith), le-leb n most_ports few) at none))
+    ]
 
--- the places as they were read
-pub spelled_ports : (bytes used unused ports : List ℕ) → length bytes ≡ 1 + 2 * most_ports → get_or bytes 0 0 ≤ most_ports
-    → used ≡ take (2 * get_or bytes 0 0) (drop 1 bytes) → unused ≡ drop (2 * get_or bytes 0 0) (drop 1 bytes) → are_zeros unused ≡ true
-    → used ≡ flat_map (to_be_bytes w16) ports → length ports ≡ get_or bytes 0 0
-    → (ports_refusal bytes ≡ None) × (bytes ≡ ports_text ports)
-spelled_ports bytes used unused ports len few front back zeros text count =
-    let n = get_or bytes 0 0 in
-    let behind : unused ≡ drop (1 + 2 * n) bytes = back ∙ drop-drop (2 * n) 1 bytes in
-    let rest : length unused ≡ 2 * (most_ports - length ports) = ap length behind ∙ length-drop (1 + 2 * n) bytes ∙ omega (arith, len, count, few) in
-    let places : List ℕ = flat_map (to_be_bytes w16) (places_of ports) in
-    let tail : drop 1 bytes ≡ places =
-    sym (take-append-drop (2 * n) (drop 1 bytes)) ∙ ap (λ (l : List ℕ). l ++ drop (2 * n) (drop 1 bytes)) (sym front ∙ text)
-    ∙ ap (λ (l : List ℕ). flat_map (to_be_bytes w16) ports ++ l) (sym back ∙ zeros_are unused zeros ∙ ap (λ k. replicate k 0) rest)
-    ∙ sym (places_are ports (most_ports - length ports)) in (
-      no_refusal bytes few (ap are_zeros (sym behind) ∙ zeros),
-      first_and_rest bytes (omega (arith, len)) ∙ ap (λ (l : List ℕ). n ∷ l) tail ∙ ap (λ k. k ∷ flat_map (to_be_bytes w16) (places_of ports)) (sym count),
-    )
+-- where some are, what stands behind them tells whether they are refused
+pub refusal_is : (bytes ports unused : List ℕ) (zeros : Bool) → bytes ≡ ports_form.text ports ++ unused → length ports ≤ most_ports → are_zeros unused ≡ zeros → ports_refusal bytes ≡ cond (not zeros) (Some BadPadding) None
+refusal_is bytes ports unused zeros parts few is =
+    let n = 1 + 2 * length ports in
+    let text = ports_form.text ports ++ unused in
+    let fits : ltb most_ports (length ports) ≡ false = le-ltb _ _ few in
+    let padded : are_zeros (drop n text) ≡ zeros = ap are_zeros (drop_at (ports_form.text ports) unused n (omega (arith, length_ports ports))) ∙ is in
+    ap ports_refusal parts ∙ ap (λ b. cond b (Some BadCount) (cond (not (are_zeros (drop n text))) (Some BadPadding) None)) fits ∙ ap (λ b. cond (not b) (Some BadPadding) None) padded
+
+-- zeros behind them are their places
+pub all_places : (bytes ports unused : List ℕ) → length bytes ≡ 1 + 2 * most_ports → bytes ≡ ports_form.text ports ++ unused → length ports ≤ most_ports → are_zeros unused ≡ true → bytes ≡ ports_text ports
+all_places bytes ports unused len parts few zeros =
+    let rest : length unused ≡ 2 * (most_ports - length ports) = omega (arith, len, ap length parts, length-append (flat_map (to_be_bytes w16) ports) unused, length_ports ports, few) in
+    parts ∙ ap (λ (l : List ℕ). ports_form.text ports ++ l) (zeros_are unused zeros ∙ ap (λ k. replicate k 0) rest) ∙ sym (ports_are ports)
 
 -- nothing but zeros
 pub homeless : (bytes rest : List ℕ) → length bytes ≡ home_size → get_or bytes 0 0 ≡ 0 → rest ≡ drop 1 bytes → are_zeros rest ≡ true
@@ -148,4 +150,4 @@ ports_put ports i out high low e =
     let all : i ≡ length ports = omega (arith, high, low) in
     e ∙ ap (λ (l : List ℕ). length ports ∷ (flat_map (to_be_bytes w16) l ++ replicate (2 * (most_ports - i)) 0)) (take_all i ports high)
     ∙ ap (λ k. length ports ∷ (flat_map (to_be_bytes w16) ports ++ replicate (2 * (most_ports - k)) 0)) all
-    ∙ ap (λ (l : List ℕ). length ports ∷ l) (sym (places_are ports (most_ports - length ports)))
+    ∙ sym (ports_are ports)

@@ -1,18 +1,17 @@
 -- Spellings are read, each as the one value that it is of.
-use Rattle.std.proofs.Common.{◌≡◌, ℕ, ◌+◌, ◌-◌, ◌*◌, ◌^◌, ◌<◌, ◌≤◌, List, [], ◌∷◌, ◌++◌, length, take, drop, replicate, Option, Some, None, refl, sym, ap, ◌∙◌, arith}
-use Rattle.std.specs.Int.{w16, w64, from_be_bytes, to_be_bytes}
-use Rattle.std.specs.List.{flat_map, AllByRecursion}
-use Rattle.std.proofs.lemmas.List.{take_at, drop_at, drop-drop, length-append, length-replicate}
+use Rattle.std.proofs.Common.{◌≡◌, ℕ, ◌+◌, ◌-◌, ◌*◌, ◌^◌, ◌<◌, ◌≤◌, true, List, ◌++◌, length, drop, replicate, Option, Some, None, refl, sym, ap, ◌∙◌, arith}
+use Rattle.std.specs.Int.{w16, to_be_bytes}
+use Rattle.std.proofs.lemmas.List.{length-append, length-replicate}
 use Rattle.std.proofs.lemmas.List.Elements.{recursion_from_All}
-use Rattle.std.proofs.lemmas.Nat.{from_be_bytes-to_be_bytes_2, from_be_bytes-to_be_bytes_8}
+use Rattle.byte_forms.specs.FormLaws.{apart, u16_is_form, u64_is_form}
 use Rattle.schemes.specs.declared.packet.Address.{Address}
 use Rattle.schemes.specs.declared.packet.Home.{Home}
 use Rattle.schemes.specs.declared.packet.Packet.{Packet}
 use Rattle.packet_bytes.specs.Layout.{most_ports, home_size}
 use Rattle.packet_bytes.specs.Laws.{PacketsAreRead, OnePacket, AddressesAreRead, OneAddress}
-use Rattle.packet_bytes.specs.Refusals.{are_zeros, ports_refusal, home_refusal, packet_refusal, address_refusal}
-use Rattle.packet_bytes.specs.Spelling.{places_of, ports_text, packet_text, home_text, address_text, ArePorts, IsHome}
-use Rattle.packet_bytes.proofs.Places.{length_ports, places_are, zeros_pass, no_refusal}
+use Rattle.packet_bytes.specs.Refusals.{ports_refusal, home_refusal, packet_refusal, address_refusal}
+use Rattle.packet_bytes.specs.Spelling.{ports_text, packet_text, home_text, address_text, ArePorts, IsHome}
+use Rattle.packet_bytes.proofs.Places.{length_ports, zeros_pass, ports_form, ports_is_form, ports_are, refusal_is}
 
 -- ---- ports
 
@@ -24,49 +23,14 @@ length_text ports few =
 
 ports_read : (ports : List ℕ) → length ports ≤ most_ports → ports_refusal (ports_text ports) ≡ None
 ports_read ports few =
-    let n = 2 * length ports in
-    let m = 2 * (most_ports - length ports) in
-    let zeros : List ℕ = replicate m 0 in
-    let unused : drop (1 + n) (ports_text ports) ≡ zeros =
-    sym (drop-drop n 1 (ports_text ports)) ∙ ap (λ (l : List ℕ). drop n l) (places_are ports (most_ports - length ports))
-    ∙ drop_at (flat_map (to_be_bytes w16) ports) zeros n (length_ports ports) in
-    no_refusal (ports_text ports) few (ap are_zeros unused ∙ zeros_pass m)
+    let n = 2 * (most_ports - length ports) in
+    refusal_is (ports_text ports) ports (replicate n 0) true (ports_are ports) few (zeros_pass n)
 
--- equal lists with fronts of one length
-same_parts : (a b x y : List ℕ) → length a ≡ length b → a ++ x ≡ b ++ y → (a ≡ b) × (x ≡ y)
-same_parts a b x y len e =
-    let n = length b in
-    (sym (take_at a x n len) ∙ ap (λ (l : List ℕ). take n l) e ∙ take_at b y n refl, sym (drop_at a x n len) ∙ ap (λ (l : List ℕ). drop n l) e ∙ drop_at b y n refl)
-
-same_u16 : (m n : ℕ) (x y : List ℕ) → m < 2 ^ 16 → n < 2 ^ 16 → to_be_bytes w16 m ++ x ≡ to_be_bytes w16 n ++ y → (m ≡ n) × (x ≡ y)
-same_u16 m n x y lm ln e =
-    let p = same_parts (to_be_bytes w16 m) (to_be_bytes w16 n) x y refl e in
-    (sym (from_be_bytes-to_be_bytes_2 m lm) ∙ ap (from_be_bytes w16) p.0 ∙ from_be_bytes-to_be_bytes_2 n ln, p.1)
-
-same_u64 : (m n : ℕ) (x y : List ℕ) → m < 2 ^ 64 → n < 2 ^ 64 → to_be_bytes w64 m ++ x ≡ to_be_bytes w64 n ++ y → (m ≡ n) × (x ≡ y)
-same_u64 m n x y lm ln e =
-    let p = same_parts (to_be_bytes w64 m) (to_be_bytes w64 n) x y refl e in
-    (sym (from_be_bytes-to_be_bytes_8 m lm) ∙ ap (from_be_bytes w64) p.0 ∙ from_be_bytes-to_be_bytes_8 n ln, p.1)
-
-same_flat : (a b : List ℕ) → AllByRecursion (λ port. port < 2 ^ 16) a → AllByRecursion (λ port. port < 2 ^ 16) b → length a ≡ length b
-    → flat_map (to_be_bytes w16) a ≡ flat_map (to_be_bytes w16) b → a ≡ b
-same_flat [] [] fa fb len e = refl
-same_flat [] (q ∷ b) fa fb len e = absurd cc
-same_flat (p ∷ a) [] fa fb len e = absurd cc
-same_flat (p ∷ a) (q ∷ b) fa fb len e =
-    let first = same_u16 p q (flat_map (to_be_bytes w16) a) (flat_map (to_be_bytes w16) b) fa.0 fb.0 e in
-    let rest : a ≡ b = same_flat a b fa.1 fb.1 (omega (arith, len)) first.1 in
-    ap (λ k. k ∷ a) first.0 ∙ ap (λ (l : List ℕ). q ∷ l) rest
+fits : (ports : List ℕ) → ArePorts ports → ports_form.Fits ports
+fits ports are = (omega arith, are.few, recursion_from_All (λ port. port < 2 ^ 16) ports are.each)
 
 same_ports : (a b : List ℕ) → ArePorts a → ArePorts b → ports_text a ≡ ports_text b → a ≡ b
-same_ports a b fa fb e =
-    let len : length a ≡ length b = cc in
-    let tails : flat_map (to_be_bytes w16) (places_of a) ≡ flat_map (to_be_bytes w16) (places_of b) = cc in
-    let za : List ℕ = replicate (2 * (most_ports - length a)) 0 in
-    let zb : List ℕ = replicate (2 * (most_ports - length b)) 0 in
-    let split : flat_map (to_be_bytes w16) a ++ za ≡ flat_map (to_be_bytes w16) b ++ zb = sym (places_are a (most_ports - length a)) ∙ tails ∙ places_are b (most_ports - length b) in
-    let fronts = same_parts (flat_map (to_be_bytes w16) a) (flat_map (to_be_bytes w16) b) za zb (length_ports a ∙ ap (λ k. 2 * k) len ∙ sym (length_ports b)) split in
-    same_flat a b (recursion_from_All (λ port. port < 2 ^ 16) a fa.each) (recursion_from_All (λ port. port < 2 ^ 16) b fb.each) len fronts.0
+same_ports a b are_a are_b e = (apart ports_is_form a b _ _ (fits a are_a) (fits b are_b) (sym (ports_are a) ∙ e ∙ ports_are b)).0
 
 -- ---- packets
 
@@ -84,11 +48,11 @@ pub one_packet : OnePacket
 one_packet bytes j k sj sk =
     let a = sj.fits in
     let b = sk.fits in
-    let generation = same_u64 j.generation k.generation _ _ a.generation b.generation (sym sj.text ∙ sk.text) in
-    let destination = same_u16 j.destination k.destination _ _ a.destination b.destination generation.1 in
-    let root = same_u16 j.root k.root _ _ a.root b.root destination.1 in
-    let first = same_u16 j.label.first k.label.first _ _ a.label.0 b.label.0 root.1 in
-    let hops = same_u16 j.hops_left k.hops_left _ _ a.hops_left b.hops_left first.1 in
+    let generation = apart u64_is_form j.generation k.generation _ _ a.generation b.generation (sym sj.text ∙ sk.text) in
+    let destination = apart u16_is_form j.destination k.destination _ _ a.destination b.destination generation.1 in
+    let root = apart u16_is_form j.root k.root _ _ a.root b.root destination.1 in
+    let first = apart u16_is_form j.label.first k.label.first _ _ a.label.0 b.label.0 root.1 in
+    let hops = apart u16_is_form j.hops_left k.hops_left _ _ a.hops_left b.hops_left first.1 in
     let lights = same_ports j.label.lights k.label.lights a.label.1 b.label.1 hops.1 in
     let same : packet j.generation j.destination j.root j.label.first j.label.lights j.hops_left ≡ packet k.generation k.destination k.root k.label.first k.label.lights k.hops_left =
     cc (generation.0, destination.0, root.0, first.0, hops.0, lights) in
@@ -113,8 +77,8 @@ same_home None (Some h) fo fp e = absurd cc
 same_home (Some g) None fo fp e = absurd cc
 same_home (Some g) (Some h) fo fp e =
     let rest : to_be_bytes w16 g.landmark ++ (to_be_bytes w16 g.label.first ++ ports_text g.label.lights) ≡ to_be_bytes w16 h.landmark ++ (to_be_bytes w16 h.label.first ++ ports_text h.label.lights) = ap (λ (l : List ℕ). drop 1 l) e in
-    let landmark = same_u16 g.landmark h.landmark _ _ fo.0 fp.0 rest in
-    let first = same_u16 g.label.first h.label.first _ _ fo.1.0 fp.1.0 landmark.1 in
+    let landmark = apart u16_is_form g.landmark h.landmark _ _ fo.0 fp.0 rest in
+    let first = apart u16_is_form g.label.first h.label.first _ _ fo.1.0 fp.1.0 landmark.1 in
     let lights = same_ports g.label.lights h.label.lights fo.1.1 fp.1.1 first.1 in
     let same : with_home g.landmark g.label.first g.label.lights ≡ with_home h.landmark h.label.first h.label.lights = cc (landmark.0, first.0, lights) in
     same
@@ -131,8 +95,8 @@ pub one_address : OneAddress
 one_address bytes a b sa sb =
     let fa = sa.fits in
     let fb = sb.fits in
-    let generation = same_u64 a.generation b.generation _ _ fa.generation fb.generation (sym sa.text ∙ sb.text) in
-    let node = same_u16 a.node b.node _ _ fa.node fb.node generation.1 in
+    let generation = apart u64_is_form a.generation b.generation _ _ fa.generation fb.generation (sym sa.text ∙ sb.text) in
+    let node = apart u16_is_form a.node b.node _ _ fa.node fb.node generation.1 in
     let home = same_home a.home b.home fa.home fb.home node.1 in
     let same : address a.generation a.node a.home ≡ address b.generation b.node b.home = cc (generation.0, node.0, home) in
     same

@@ -1,7 +1,5 @@
 //! The ports of a label: how many there are, and a place for each that a label has room for.
-ghost use Rattle.std.specs.Prelude.{◌≡◌, ◌<◌, ◌≤◌, ◌*◌, ◌^◌, length, replicate, None, Some, MatchResult};
-ghost use Rattle.std.specs.List.{flat_map, All};
-ghost use Rattle.std.specs.Int.{w16, to_be_bytes};
+ghost use Rattle.std.specs.Prelude.{◌≡◌, ◌≤◌, length, replicate, None, Some, MatchResult};
 ghost use Rattle.packet_bytes.specs.Spelling.{ports_text, ArePorts};
 ghost use Rattle.packet_bytes.specs.Refusals.{are_zeros, ports_refusal};
 
@@ -9,6 +7,7 @@ use crate::fields::put_u16;
 use crate::layout::PORTS_SIZE;
 use crate::wire::WireRefused;
 use arrayvec::ArrayVec;
+use byte_forms::{U16, short_of};
 use heavy_labels::MOST_LIGHTS;
 
 /// Writes the ports over zeros.
@@ -33,21 +32,6 @@ pub(crate) fn all_zero(bytes: &[u8]) -> bool
     bytes.iter().all(|byte| *byte == 0)
 }
 
-// So many ports, two bytes each.
-fn ports_of(count: usize, bytes: &[u8]) -> ArrayVec<u16, MOST_LIGHTS>
-    requires few { count ≤ MOST_LIGHTS }
-    requires size { length bytes.now ≡ 2 * count }
-    ensures spelled { bytes.now ≡ flat_map (to_be_bytes w16) result.items }
-    ensures len { length result.items ≡ count }
-    ensures each { All (λ port. port < 2 ^ 16) result.items }
-{
-    let mut ports = ArrayVec::new();
-    for i in 0..count {
-        ports.push(u16::from_be_bytes([bytes[2 * i], bytes[2 * i + 1]]));
-    }
-    ports
-}
-
 /// The ports that the bytes spell, or why they spell none.
 pub(crate) fn read_ports(bytes: &[u8]) -> Result<ArrayVec<u16, MOST_LIGHTS>, WireRefused>
     requires { length bytes.now ≡ PORTS_SIZE }
@@ -55,13 +39,11 @@ pub(crate) fn read_ports(bytes: &[u8]) -> Result<ArrayVec<u16, MOST_LIGHTS>, Wir
         (λ ports. (ports_refusal bytes.now ≡ None) × ((bytes.now ≡ ports_text ports.items) × ArePorts ports.items))
         (λ e. ports_refusal bytes.now ≡ Some e) }
 {
-    let count = bytes[0] as usize;
-    if count > MOST_LIGHTS {
+    let Some((ports, unused)) = short_of::<U16, MOST_LIGHTS>(0, bytes) else {
         return Err(WireRefused::BadCount);
-    }
-    let (used, unused) = bytes[1..].split_at(2 * count);
+    };
     if !all_zero(unused) {
         return Err(WireRefused::BadPadding);
     }
-    Ok(ports_of(count, used))
+    Ok(ports)
 }

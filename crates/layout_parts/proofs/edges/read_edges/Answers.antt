@@ -25,7 +25,7 @@ returns-then-not-is_next-clause-damaged c e map all text =
     let behind = c.split_at.result.1.now in
     let rest : c.loop.rest.now ≡ edge_text ((r.a, r.b), r.weight) ++ behind = split_rest c.loop.rest.now c.split_at.result.0.now behind (edge_text ((r.a, r.b), r.weight)) c.split_at.ensures.front c.split_at.ensures.back c.edge_of-edge.ensures in
     let is = next_is c.args.nodes (omega (arith, c.requires.few)) map (entries c.loop.graph.edges) ((r.a, r.b), r.weight) behind c.args.bytes.now all text inv.each
-    (ap (λ (l : List ℕ). flat_map edge_text (entries c.loop.graph.edges) ++ l) (sym rest) ∙ inv.text) (omega arith, omega arith, omega arith) in
+    (ap (λ (l : List ℕ). flat_map edge_text (entries c.loop.graph.edges) ++ l) (sym rest) ∙ inv.text) ((omega arith, omega arith), omega arith) in
     let yes : IsTrue c.is_next.result = c.is_next.ensures.1 (is.0, subst (λ o. IsAfterLast o (r.a, r.b)) inv.last is.1) in
     let no = c.if-not-is_next.true in
     cc
