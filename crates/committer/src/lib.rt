@@ -2,21 +2,19 @@
 //!
 //! # What it is
 //!
-//! A [`Committer`] owns a desk with its store, the front of an intake queue and a board's writer. [`Committer::round`] takes up to
-//! 64 requests from the queue, has the desk settle and commit them as one group, and posts one mark for each, only after the
-//! commit answered `Ok`. [`Committer::rebuild`] builds the routing scheme of the store's graph and posts it as a generation, under
-//! the store's count. To build it elsewhere, as in threads, ask [`Committer::generation_due`] for the number and hand the scheme
-//! to [`Committer::announce`]. `rebuild` is these two with a build between. A scheme that was built while rounds went on is handed to
+//! A [`Committer`] owns a desk with its store, the front of an intake queue and a board's writer. [`Committer::round`] takes up to 64 requests from the queue, has
+//! the desk settle and commit them as one group, and posts one mark for each, only after the commit answered `Ok`. [`Committer::rebuild`] builds the routing scheme
+//! of the store's graph and posts it as a generation, under the store's count. To build it elsewhere, as in threads, ask [`Committer::generation_due`] for the
+//! number and hand the scheme to [`Committer::announce`]. `rebuild` is these two with a build between. A scheme that was built while rounds went on is handed to
 //! [`Committer::announce_earlier`], under the count that its graph had.
 //!
-//! A post may be refused. Then the posting waits in the outbox, at most one at a time; each later call tries it first, and takes
-//! nothing until it is posted. If a commit lacks memory or meets a limit, its group is kept, and a later round settles it before
-//! it takes another.
+//! A post may be refused. Then the posting waits in the outbox, at most one at a time; each later call tries it first, and takes nothing until it is posted. If a
+//! commit lacks memory or meets a limit, its group is kept, and a later round settles it before it takes another.
 //!
 //! # The contract
 //!
-//! Contracts see a committer by the definitions of specs/CommitterWords.antt: its store, what it holds, all that it took, what is
-//! posted and due. What the layer above uses is [`Committer::round`]; each answer is one record of specs/Answers.antt:
+//! Contracts see a committer by the definitions of specs/CommitterWords.antt: its store, what it holds, all that it took, what is posted and due. What the layer
+//! above uses is [`Committer::round`]; each answer is one record of specs/Answers.antt:
 //!
 //! | Answer | What it says |
 //! |---|---|
@@ -28,11 +26,10 @@
 //!
 //! Fewer than 64 are taken only where a group was held already, the queue was found empty in the call, or it stopped before.
 //!
-//! On a device that keeps the disk model a crash at any moment of a round leaves the state of before, or the one after the whole
-//! group (`any_moment`); and a crash between two calls leaves the store's state, or the one with the whole group that is held,
-//! also after a failure of the device (`whole` of `IsAtRest`). A count that was posted as accepted is one that the store has reached (`tells`),
-//! so each image has every change that was answered `accepted`. One record, `IsTied`, ties together what was taken, held, posted
-//! and stored ([`Committer::told`]).
+//! On a device that keeps the disk model a crash at any moment of a round leaves the state of before, or the one after the whole group (`any_moment`); and a crash
+//! between two calls leaves the store's state, or the one with the whole group that is held, also after a failure of the device (`whole` of `IsAtRest`). A count
+//! that was posted as accepted is one that the store has reached (`tells`), so each image has every change that was answered `accepted`. One record, `IsTied`, ties
+//! together what was taken, held, posted and stored ([`Committer::told`]).
 //!
 //! ```text
 //! let (writer, readers) = board(alloc, rt, 1, &desk.starts(), desk.store().count())?;

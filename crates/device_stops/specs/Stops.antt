@@ -1,5 +1,5 @@
 -- The stops of calls.
-use Rattle.std.specs.Prelude.{ℕ, suc, ◌+◌, List, [], ◌∷◌, ◌++◌, length, map, take}
+use Rattle.std.specs.Prelude.{ℕ, ◌+◌, List, [], ◌∷◌, ◌++◌, length, map, take}
 use Rattle.std.specs.List.{range_with_len}
 use Rattle.device_stops.specs.declared.stops.Call.{Call}
 use Rattle.device_stops.specs.declared.stops.Call.TheVariants.{Read, Write, Sync}

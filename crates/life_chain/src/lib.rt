@@ -2,9 +2,9 @@
 //!
 //! # What it is
 //!
-//! A [`Life`] opens the device, builds a generation of its network, runs a list of events in any order (the crate `interleave`),
-//! in which the device may fail by a plan, and crashes. [`lives`] runs some of them and reports what each was. The function is
-//! small. Its point is the contract: it says of all lives together what the layers below say of one call.
+//! A [`Life`] opens the device, builds a generation of its network, runs a list of events in any order (the crate `interleave`), in which the device may fail by a
+//! plan, and crashes. [`lives`] runs some of them and reports what each was. The function is small. Its point is the contract: it says of all lives together what
+//! the layers below say of one call.
 //!
 //! # The contract
 //!
@@ -18,20 +18,21 @@
 //! | `refused` | where the disk stands for anything, an opening is refused by `Device` or `Memory` alone |
 //! | `sound` | each life is sound (`IsSound`, specs/Sound.antt), on the very disk that the crash of the one before had left, up to the first life that couldn't open, which only read it |
 //!
-//! A sound life opened to what its disk stood for, and until its events began it only read it. A crash since the disk was handed over, in the
-//! opening or behind it, or since any event, leaves a prefix state with all that commits had answered Ok for by then, all that was acknowledged by
-//! then, and none in part of the groups that events and replies say were given to commits (specs/Groups.antt). Its tables serve the network, and each
-//! packet goes over the one trip of its own generation, at most three times as long as any other.
+//! A sound life opened to what its disk stood for, and until its events began it only read it. A crash since the disk was handed over, in the opening or behind it,
+//! or since any event, leaves a prefix state with all that commits had answered Ok for by then, all that was acknowledged by then, and none in part of the groups
+//! that events and replies say were given to commits (specs/Groups.antt). Its tables serve the network, and each packet goes over the one trip of its own
+//! generation, at most three times as long as any other.
 //!
 //! The clause `answered` says the rest of the same lives (`AreLived`, specs/Lived.antt): what the rebuild and each event were answered, each by the call that it
-//! stands for, and that there is a world after each event, where a commit was answered by a desk over its disk (`WorldRun` of `interleave`); a refused
-//! opening tells of the content's front. The clause `no_memory` says of any disk: where there was no room for the replies, no life ran, and the disk is the one that was handed over.
+//! stands for, and that there is a world after each event, where a commit was answered by a desk over its disk (`WorldRun` of `interleave`); a refused opening tells
+//! of the content's front. The clause `no_memory` says of any disk: where there was no room for the replies, no life ran, and the disk is the one that was handed
+//! over.
 //!
-//! [`lives`] drops the disk at the end. [`lives_on`] gives it back at every exit, so more lives may go on where these ended: two calls are one
-//! ([`lives_law`]). On a disk in memory, [`lives_in_memory`] says besides which image each crash left: that of the life's word.
+//! [`lives`] drops the disk at the end. [`lives_on`] gives it back at every exit, so more lives may go on where these ended: two calls are one ([`lives_law`]). On a
+//! disk in memory, [`lives_in_memory`] says besides which image each crash left: that of the life's word.
 //!
-//! Memory for all replies is taken before the first life, so that a life that ran is reported. If a world or the copy of the
-//! opened network lacks memory, the life is reported as one that couldn't open.
+//! Memory for all replies is taken before the first life, so that a life that ran is reported. If a world or the copy of the opened network lacks memory, the life
+//! is reported as one that couldn't open.
 //!
 //! ```text
 //! let report = lives(alloc, disk, &[first, second])?;

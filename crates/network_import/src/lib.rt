@@ -2,11 +2,10 @@
 //!
 //! # What it is
 //!
-//! [`import`] makes the ops for a list of edges, in its order: changes of 16 of them, in groups of 64 changes. An edge is
-//! added, or where it is there, and [`incoming_edges`] was asked for that, gets a new weight. Each
-//! group is judged first, whole, by the network as the groups before it left it; then it is committed as one record,
-//! with a roll before it where the journal has no room. The changes are those of session 0, under the tickets behind
-//! its last one.
+//! [`import`] makes the ops for a list of edges, in its order: changes of 16 of them, in groups of 64 changes. An edge is added, or where it is
+//! there, and [`incoming_edges`] was asked for that, gets a new weight. Each group is judged first, whole, by the network as the groups before it
+//! left it; then it is committed as one record, with a roll before it where the journal has no room. The changes are those of session 0, under the
+//! tickets behind its last one.
 //!
 //! # The contract
 //!
@@ -28,9 +27,8 @@
 //! | `durable` | behind any answer but `Device`, a crash leaves the store's state |
 //! | `cut_off` | behind `Device`, it leaves the store's state, or the one with the whole group that was next (`IsCutOff`) |
 //!
-//! [`import_named`] keeps an order in which edges and the names that they are by come in (`specs/Order`, `KeepsOrder`), over
-//! any place of names ([`NamesPlace`]): all edges are judged, the new names are laid beside the old ones, the edges are
-//! imported, and the names are put.
+//! [`import_named`] keeps an order in which edges and the names that they are by come in (`specs/Order`, `KeepsOrder`), over any place of names
+//! ([`NamesPlace`]): all edges are judged, the new names are laid beside the old ones, the edges are imported, and the names are put.
 //!
 //! | Answer | What it says |
 //! |---|---|

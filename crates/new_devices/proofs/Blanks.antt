@@ -1,5 +1,5 @@
 -- Devices of zeros are none of this layout.
-use Rattle.std.proofs.Common.{◌≡◌, ℕ, zero, suc, List, IsTrue, ap, subst, arith, get_or, take, drop, replicate}
+use Rattle.std.proofs.Common.{◌≡◌, ℕ, zero, suc, List, IsTrue, ap, subst, get_or, replicate}
 use Rattle.disk_trait.specs.Disk.{DiskView, bytes_at}
 use Rattle.disk_trait.specs.Image.{zeros}
 use Rattle.layout_parts.specs.Refusals.{magic}

@@ -1,10 +1,10 @@
 -- How a backup ends.
-use Rattle.std.proofs.Common.{◌≡◌, inl, inr, ◌++◌, ◌∷◌, [], ℕ, List, Result, Ok, Err, ap, ◌∙◌, append_assoc}
+use Rattle.std.proofs.Common.{◌≡◌, inl, inr, ◌++◌, ◌∷◌, [], ℕ, List, Ok, Err, ap, ◌∙◌, append_assoc}
 use Rattle.std.specs.Prelude.{◌⊎◌, IfErr}
 use Rattle.disk_trait.specs.declared.disk.Disk.{Ghosts}
 use Rattle.checkpoint.specs.declared.store.Store.{Store}
 use Rattle.new_devices.specs.Events.{Event, IsUnmade, LetGo, Made}
-use Rattle.new_devices.specs.Backups.{IsBackedUp, IsBackupEnd, IsWritten}
+use Rattle.new_devices.specs.Backups.{IsBackupEnd, IsWritten}
 use Rattle.new_devices.specs.declared.refused.BackupRefused.{BackupRefused}
 use Rattle.new_devices.specs.declared.refused.BackupRefused.TheVariants.{FileExists, Unusable, Memory, Device}
 

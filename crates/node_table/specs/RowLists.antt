@@ -1,5 +1,5 @@
 -- Rows of one root's tree, a row for each member.
-use Rattle.std.specs.Prelude.{◌≡◌, ℕ, ◌<◌, ◌==◌, cond, Option, Some, None, List, [], ◌∷◌, length, map, slice_index, slice_index_or}
+use Rattle.std.specs.Prelude.{ℕ, ◌<◌, ◌==◌, cond, Option, Some, None, List, [], ◌∷◌, length, map, slice_index, slice_index_or}
 use Rattle.std.specs.List.{All}
 use Rattle.std.specs.Option.{option_map}
 use Rattle.distances.specs.declared.reach.Reached.{Reached}

@@ -5,7 +5,7 @@ use Rattle.std.specs.Io.KnownBytes.{Appends}
 use Rattle.std.proofs.KnownBytes.{Appends-nil, Appends-trans}
 use Rattle.std.proofs.lemmas.List.{append-nil}
 use Rattle.std.proofs.lemmas.List.Concat.{flat_map-append}
-use Rattle.input_lines.specs.Lines.{after_line, first_line}
+use Rattle.input_lines.specs.Lines.{after_line}
 use Rattle.input_lines.specs.Reading.{DropsLine, IsNext}
 use Rattle.input_lines.specs.declared.line.NextLine.{NextLine}
 use Rattle.input_lines.specs.declared.line.NextLine.TheVariants.{Line, LongerLine, End}

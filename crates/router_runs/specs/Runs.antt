@@ -11,7 +11,6 @@ use Rattle.router_lines.specs.declared.answer.Answer.{Answer}
 use Rattle.router_lines.specs.declared.answer.Answer.TheVariants.{NoFile as CannotUse, NotRead, NotUnderstood}
 use Rattle.router_lines.specs.declared.line.Asked.{Asked}
 use Rattle.router_runs.specs.Reads.{FileRead}
-use Rattle.router_runs.specs.declared.source.Unread.{Unread}
 use Rattle.router_runs.specs.declared.source.Unread.TheVariants.{TooLong, NoFile}
 
 -- ---- one line

@@ -1,5 +1,5 @@
 -- What one node sends, one pair more at a time.
-use Rattle.std.proofs.Common.{arith, ◌≡◌, ◌<◌, ◌≤◌, ◌+◌, ◌==◌, ◌∙◌, ap, refl, sym, ℕ, zero, suc, List, [], ◌∷◌, ◌++◌, Bool, true, false, cond, get_or, length, take}
+use Rattle.std.proofs.Common.{arith, ◌≡◌, ◌<◌, ◌+◌, ◌==◌, ◌∙◌, ap, refl, sym, ℕ, zero, suc, List, [], ◌∷◌, ◌++◌, Bool, true, false, cond, get_or, length, take}
 use Rattle.scheme_figures.specs.declared.measures.Measured.{Measured}
 use Rattle.scheme_figures.specs.Measures.{sent_by}
 

@@ -1,17 +1,15 @@
 -- The eighths that stand apart are those of the lists, place by place; and lists that all ascend do so place by place.
-use Rattle.std.proofs.Common.{◌≡◌, ℕ, zero, suc, Bool, arith, List, [], ◌∷◌, length, map, refl, sym, ap, subst, ◌∙◌}
+use Rattle.std.proofs.Common.{◌≡◌, ℕ, zero, suc, Bool, arith, List, [], ◌∷◌, map, refl, sym, subst}
 use Rattle.std.specs.Prelude.{Option, Some, IfSome, IsTrue, ◌↔◌}
 use Rattle.std.specs.List.{All}
 use Rattle.std.specs.List.Sorted.{IsStrictlyIncreasing}
 use Rattle.std.specs.declared.vec.Vec.{Vec}
-use Rattle.std.proofs.lemmas.List.{map-id}
 use Rattle.schemes.specs.declared.numbers_apart.NumbersApart.{NumbersApart}
 use Rattle.schemes.specs.Entry.{Entry}
 use Rattle.schemes.specs.declared.parts.Listed.{Listed}
 use Rattle.schemes.specs.declared.parts.Parts.{Parts}
 use Rattle.schemes.specs.Apart.{AreApart, AreEighths}
 use Rattle.schemes.specs.Tables.{AreAscending, directory_at, entries_at, nodes_of, roots_of, items_at}
-use Rattle.schemes.proofs.Basics.Searches.{keys_length}
 
 none_ascend : {X : Type 0} (key : X → ℕ) (xs : List X) → xs ≡ [] → IsStrictlyIncreasing (map key xs)
 none_ascend key [] e k l = absurd (omega (arith, l))

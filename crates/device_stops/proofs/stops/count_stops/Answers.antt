@@ -1,6 +1,5 @@
-use Rattle.std.proofs.Common.{◌≡◌, ◌∙◌, ap, ◌+◌, ◌-◌, ◌<◌, ◌^◌, ℕ, length, min}
-use Rattle.std.proofs.lemmas.List.{get_or_default, take_all}
-use Rattle.device_stops.specs.Stops.{bytes_of, stop_count}
+use Rattle.std.proofs.Common.{◌∙◌, ap, ◌+◌, ◌-◌, ◌<◌, ◌^◌, ℕ, length, min}
+use Rattle.std.proofs.lemmas.List.{get_or_default}
 use Rattle.device_stops.proofs.StopLemmas.{one_count_more}
 use Rattle.device_stops.proofs.stops.count_stops.Goals as goal
 

@@ -11,7 +11,7 @@ use Rattle.graph_edits.specs.Edges.{all_degrees, degree_of}
 use Rattle.distances.proofs.OpenDegrees.{open_degrees, open_degrees_start, open_degrees_set}
 use Rattle.distances.proofs.Progress.{Progress, progress_done, table_done, listing_done}
 use Rattle.distances.proofs.Turns.{count_open, progress_start, progress_turn, count_set, count_replicate, no_flags, flag_set_same, flag_set_other}
-use Rattle.distances.proofs.Queues.{most_pops, entry_of, popped_as, greatest_as, popped_within, popped_nearest, popped_rest, popped_length, pops_fit, degrees_push, open_before, none_waits, tracked_by, complete_push}
+use Rattle.distances.proofs.Queues.{entry_of, popped_as, greatest_as, popped_within, popped_nearest, popped_rest, popped_length, degrees_push, open_before, none_waits, tracked_by, complete_push}
 use Rattle.distances.proofs.search.settle_all.Goals as goal
 
 pub loop-next-init : goal.loop-next-init

@@ -1,4 +1,4 @@
-use Rattle.std.proofs.Common.{◌≡◌, ◌<◌, None, false, [], ◌∷◌, ◌++◌, length, arith, sym, ◌∙◌, length-set}
+use Rattle.std.proofs.Common.{◌≡◌, ◌<◌, None, false, [], ◌∷◌, ◌++◌, length, arith, ◌∙◌, length-set}
 use Rattle.std.specs.BinaryHeap.{heap_items}
 use Rattle.distances.specs.Search.{flag_at}
 use Rattle.distances.proofs.Queues.{entry_of, popped_as, tracked_listed, tracked_entry, last_listed, first_entry}

@@ -1,4 +1,4 @@
-use Rattle.std.proofs.Common.{arith, ◌≡◌, ◌+◌, ◌++◌, ◌∷◌, [], ◌∙◌, ap, sym, subst, List, length, length-append}
+use Rattle.std.proofs.Common.{arith, ◌∷◌, [], ◌∙◌, ap, sym, subst, List, length, length-append}
 use Rattle.figure_lines.specs.NodeRows.{AreRowsFrom}
 use Rattle.figure_lines.specs.declared.nodes.NodeRow.{NodeRow}
 use Rattle.figure_lines.proofs.NodeLists.{rows_more}

@@ -1,4 +1,4 @@
-use Rattle.std.proofs.Common.{rules, arith, ◌≡◌, ◌≤◌, ◌∙◌, ◌<◌, length, ap, min}
+use Rattle.std.proofs.Common.{arith, ◌∙◌, length}
 use Rattle.std.proofs.Math.Nat.{le-min, min-le_left, min-le_right}
 use Rattle.scheme_figures.proofs.Sent.{sent_all, sent_next}
 use Rattle.scheme_figures.proofs.measures.sent_by.Goals as goal

@@ -1,4 +1,4 @@
-use Rattle.std.proofs.Common.{◌-◌, ◌*◌, ◌/◌, ◌≡◌, ◌≤◌, arith, length, map, sym, ◌∙◌}
+use Rattle.std.proofs.Common.{◌-◌, ◌*◌, ◌/◌, ◌≡◌, arith, length, map, sym, ◌∙◌}
 use Rattle.schemes.proofs.Basics.Searches.{eighths_apart, eighths_between, eighths_few, eighths_found, eighths_missed, eighths_within, keys_length, located}
 use Rattle.schemes.proofs.search.place_by_eighths.Goals as goal
 
