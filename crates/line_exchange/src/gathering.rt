@@ -33,10 +33,8 @@ pub struct Gatherer<'a, O> {
 fn push_line(alloc: Global, text: &mut String, answer: &Answer) -> Result<(), AllocError>
     ensures { OnOk result (string_bytes text.new ≡ string_bytes text.old ++ line (script_text answer.now)) }
 {
-    let mut line = answer.script_text(alloc)?;
-    line.push('\n')?;
-    text.push_str(&line)?;
-    Ok(())
+    answer.push_script_text(alloc, text)?;
+    text.push('\n')
 }
 
 // The answer to a line. While it isn't there, a lot of answers is awaited: nobody reads them before the end. None where no answer comes any
@@ -80,17 +78,14 @@ fn gather_each<J: Stream, B: BoardName, R: Wait>(
             return Printed { tally, end: None };
         };
         let answered = tally.filled(answered, exchange.read_behind(tally.count));
-        let Some(more) = tally.with(&answered) else {
+        let Some(()) = tally.keep(&answered) else {
             return Printed {
                 tally,
                 end: Some(LineFault::Internal),
             };
         };
         match push_line(alloc, text, &answered.answer) {
-            Ok(()) => {
-                tally = more;
-                exchange.print_to(tally.count);
-            }
+            Ok(()) => exchange.print_to(tally.count),
             Err(_) => return Printed {
                 tally,
                 end: Some(LineFault::Memory),

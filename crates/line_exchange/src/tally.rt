@@ -81,10 +81,10 @@ fn awaited_with(awaited: u64, answer: &Answer) -> Option<u64>
     }
 }
 
-// The last tickets of verdicts, with an answer more. None where that tells a ticket which isn't behind the last one of its session.
+// Keeps the ticket of a verdict as the last one of its session. None where it isn't behind that.
 #[tactic(auto, using(crate::proofs::SaidLines::in_turn_more))]
-fn tickets_with(tickets: &[u64; SESSIONS], answer: &Answer) -> Option<[u64; SESSIONS]>
-    ensures { IfSome result (IsInTurn tickets.now answer.now) }
+fn keep_ticket(tickets: &mut [u64; SESSIONS], answer: &Answer) -> Option<()>
+    ensures { IfSome result (λ _. IsInTurn tickets.old answer.now tickets.new) }
 {
     match answer {
         Answer::Settled(mark) => {
@@ -92,17 +92,16 @@ fn tickets_with(tickets: &[u64; SESSIONS], answer: &Answer) -> Option<[u64; SESS
             if session >= SESSIONS || mark.ticket <= tickets[session] {
                 return None;
             }
-            let mut tickets = *tickets;
             tickets[session] = mark.ticket;
-            Some(tickets)
+            Some(())
         }
-        _ => Some(*tickets),
+        _ => Some(()),
     }
 }
 
-// The last tickets that were accepted, with an answer more. None where that is of no session.
-fn accepted_with(accepted: &[u64; SESSIONS], answer: &Answer) -> Option<[u64; SESSIONS]>
-    ensures { IfSome result (λ new. new ≡ tickets_after accepted.now (accepted_by answer.now)) }
+// Keeps a ticket that was accepted as the last one of its session. None where the answer is of no session.
+fn keep_accepted(accepted: &mut [u64; SESSIONS], answer: &Answer) -> Option<()>
+    ensures { IfSome result (λ _. accepted.new ≡ tickets_after accepted.old (accepted_by answer.now)) }
 {
     match answer {
         Answer::Settled(mark) => match mark.verdict {
@@ -111,13 +110,12 @@ fn accepted_with(accepted: &[u64; SESSIONS], answer: &Answer) -> Option<[u64; SE
                 if session >= SESSIONS {
                     return None;
                 }
-                let mut accepted = *accepted;
                 accepted[session] = mark.ticket;
-                Some(accepted)
+                Some(())
             }
-            Verdict::Refused { op: _, code: _ } => Some(*accepted),
+            Verdict::Refused { op: _, code: _ } => Some(()),
         },
-        _ => Some(*accepted),
+        _ => Some(()),
     }
 }
 
@@ -150,16 +148,17 @@ fn is_dropped(accepted: &[u64; SESSIONS], tickets: &[u64; SESSIONS], answer: &An
     }
 }
 
+// Counts a verdict of its session, and learns what was noted of their lines. None where an editor didn't note that line as the next one
+// of its session.
 #[tactic(auto, using(crate::proofs::NotedLines::notes_one, crate::proofs::NotedLines::notes_none))]
-// How many verdicts of each session, with an answer more, and what was noted of their lines. None where an editor didn't note that line
-// as the next one of its session.
-fn puts_with<J: Stream, B: BoardName>(
-    puts: &[u64; SESSIONS],
-    lines: &PutLines,
+fn keep_put<J: Stream, B: BoardName>(
+    puts: &mut [u64; SESSIONS],
+    lines: &mut PutLines,
     answered: &Answered<J, B>,
-) -> Option<([u64; SESSIONS], PutLines)>
-    requires { lines.now.book ≡ J.book }
-    ensures { IfSome result (λ r. NotesMore answered.now.place answered.now.answer puts.now r.0 lines.now r.1) }
+) -> Option<()>
+    requires { lines.old.book ≡ J.book }
+    ensures more { IfSome result (λ _. NotesMore answered.now.place answered.now.answer puts.old puts.new lines.old lines.new) }
+    ensures book { lines.new.book ≡ lines.old.book }
 {
     match &answered.answer {
         Answer::Settled(mark) => {
@@ -178,22 +177,21 @@ fn puts_with<J: Stream, B: BoardName>(
                 return None;
             }
             let next = noted.number.checked_add(1)?;
-            let mut puts = *puts;
             puts[session] = next;
-            Some((puts, lines.learn(&noted.lines)))
+            *lines = lines.learn(&noted.lines);
+            Some(())
         }
-        _ => Some((*puts, lines.again())),
+        _ => Some(()),
     }
 }
 
-// How many answers of each kind there are, with one more.
-fn counted_with(counted: &[u64; KINDS], answer: &Answer) -> Option<[u64; KINDS]>
-    ensures { IfSome result (CountsMore answer.now counted.now) }
+// Counts an answer of its kind. None where there are too many.
+fn count_kind(counted: &mut [u64; KINDS], answer: &Answer) -> Option<()>
+    ensures { IfSome result (λ _. CountsMore answer.now counted.old counted.new) }
 {
     let place = answer.kind().place();
-    let mut counted = *counted;
     counted[place] = counted[place].checked_add(1)?;
-    Some(counted)
+    Some(())
 }
 
 // Whether these know all that was known before, where they tell that a generation is gone.
@@ -279,6 +277,50 @@ impl Tally {
         }
     }
 
+    // The same again.
+    fn again(&self) -> Tally
+        ensures { result ≡ self.now }
+    {
+        Tally {
+            count: self.count,
+            reached: self.reached,
+            awaited: self.awaited,
+            tickets: self.tickets,
+            accepted: self.accepted,
+            counted: self.counted,
+            puts: self.puts,
+            lines: self.lines.again(),
+            known: self.known.again(),
+        }
+    }
+
+    /// Keeps an answer more. None where it doesn't go with those before it: then the tally is of no use any more.
+    pub fn keep<J: Stream, B: BoardName>(&mut self, answered: &Answered<J, B>) -> Option<()>
+        requires known { self.old.known.opening ≡ B.opening }
+        requires lines { self.old.lines.book ≡ J.book }
+        requires place { answered.now.place ≡ self.old.count }
+        requires tells { Tells self.old.count self.old.counted answered.now.answer }
+        ensures adds { IfSome result (λ _. Adds self.old answered.now.known answered.now.answer self.new) }
+        ensures opening { self.new.known.opening ≡ self.old.known.opening }
+        ensures book { self.new.lines.book ≡ self.old.lines.book }
+    {
+        if !knows_all(&self.known, &answered.known, &answered.answer) {
+            return None;
+        }
+        if !is_dropped(&self.accepted, &self.tickets, &answered.answer) {
+            return None;
+        }
+        self.count = self.count.checked_add(1)?;
+        self.reached = reached_with(self.reached, &answered.answer)?;
+        self.awaited = awaited_with(self.awaited, &answered.answer)?;
+        keep_ticket(&mut self.tickets, &answered.answer)?;
+        keep_accepted(&mut self.accepted, &answered.answer)?;
+        count_kind(&mut self.counted, &answered.answer)?;
+        keep_put(&mut self.puts, &mut self.lines, answered)?;
+        self.known = furthest(&self.known, &answered.known);
+        Some(())
+    }
+
     /// With an answer more. None where it doesn't go with those before it.
     pub fn with<J: Stream, B: BoardName>(&self, answered: &Answered<J, B>) -> Option<Tally>
         requires known { self.now.known.opening ≡ B.opening }
@@ -287,27 +329,8 @@ impl Tally {
         requires tells { Tells self.now.count self.now.counted answered.now.answer }
         ensures { IfSome result (Adds self.now answered.now.known answered.now.answer) }
     {
-        let count = self.count.checked_add(1)?;
-        let reached = reached_with(self.reached, &answered.answer)?;
-        let awaited = awaited_with(self.awaited, &answered.answer)?;
-        if !knows_all(&self.known, &answered.known, &answered.answer) {
-            return None;
-        }
-        if !is_dropped(&self.accepted, &self.tickets, &answered.answer) {
-            return None;
-        }
-        let counted = counted_with(&self.counted, &answered.answer)?;
-        let (puts, lines) = puts_with(&self.puts, &self.lines, answered)?;
-        Some(Tally {
-            count,
-            reached,
-            awaited,
-            tickets: tickets_with(&self.tickets, &answered.answer)?,
-            accepted: accepted_with(&self.accepted, &answered.answer)?,
-            counted,
-            puts,
-            lines,
-            known: furthest(&self.known, &answered.known),
-        })
+        let mut more = self.again();
+        more.keep(answered)?;
+        Some(more)
     }
 }

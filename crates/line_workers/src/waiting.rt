@@ -8,7 +8,7 @@ use generations::History;
 use line_exchange::{Answered, Ask, Stream};
 use live_lines::{Answer, Asked, CommitFigures, KINDS, Metrics};
 use packet_ways::BoardName;
-use service_workers::{Backed, Standing, StopCause, TimeSpan, Timings};
+use service_workers::{Backed, ServiceState, StopCause, TimeSpan, Timings};
 use std::alloc::{AllocError, Global};
 use std::marker::PhantomData;
 use std::sync::Wait;
@@ -18,7 +18,7 @@ fn standing_from<J: Stream, B: BoardName, R: Wait>(
     here: &Workplace<J, B, R>,
     count: u64,
     generation: u64,
-) -> Option<(Standing<B>, u64)>
+) -> Option<(ServiceState<B>, u64)>
     ensures { IfSome result (λ r. IsNewest r.0.stand.told r.1) }
 {
     for _ in here.rt.forever() {
@@ -35,7 +35,7 @@ fn standing_from<J: Stream, B: BoardName, R: Wait>(
 }
 
 // What is answered of how the service stands, and what was told by then.
-fn state_of<B: BoardName>(standing: &Standing<B>, newest: u64) -> (Answer, History)
+fn state_of<B: BoardName>(standing: &ServiceState<B>, newest: u64) -> (Answer, History)
     requires { IsNewest standing.now.stand.told newest }
     ensures answers { AnswersBy result.1 Asked.State result.0 }
     ensures named { result.1.opening ≡ B.opening }
@@ -49,7 +49,7 @@ fn state_of<B: BoardName>(standing: &Standing<B>, newest: u64) -> (Answer, Histo
 }
 
 // The same of the newest generation.
-fn waited_of<B: BoardName>(standing: &Standing<B>, newest: u64) -> (Answer, History)
+fn waited_of<B: BoardName>(standing: &ServiceState<B>, newest: u64) -> (Answer, History)
     requires { IsNewest standing.now.stand.told newest }
     ensures answers { AnswersBy result.1 Asked.Wait result.0 }
     ensures named { result.1.opening ≡ B.opening }
@@ -74,7 +74,7 @@ fn backed_of<B: BoardName>(backed: &Backed<B>) -> (Answer, History)
 // What a monitor is told, but for what the printer counts, and what was told by then.
 fn metrics_of<B: BoardName>(
     alloc: Global,
-    standing: &Standing<B>,
+    standing: &ServiceState<B>,
     newest: u64,
     timings: &Timings,
 ) -> Result<(Answer, History), AllocError>
@@ -109,7 +109,7 @@ fn metrics_of<B: BoardName>(
 // The same of how the service stands now. Without memory all stop.
 fn measured<J: Stream, B: BoardName, R: Wait>(
     here: &Workplace<J, B, R>,
-    standing: &Standing<B>,
+    standing: &ServiceState<B>,
     newest: u64,
 ) -> Option<(Answer, History)>
     requires { IsNewest standing.now.stand.told newest }

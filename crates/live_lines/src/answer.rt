@@ -1,7 +1,7 @@
 // What is answered to a line, and the line that is printed of it.
-ghost use Rattle.std.specs.Prelude.{◌≡◌, IfOk};
+ghost use Rattle.std.specs.Prelude.{◌≡◌, ◌++◌, IfOk, OnOk, decimal};
 ghost use Rattle.std.specs.String.{string_bytes};
-ghost use Rattle.command_output.specs.RouteLines.{route_text, tables_text};
+ghost use Rattle.command_output.specs.RouteLines.{route_text, stops_text, tables_text};
 ghost use Rattle.live_lines.specs.Answers.{answer_text, not_carried_text, of_edit, script_text, verdict_text, way_text};
 ghost use Rattle.live_lines.specs.Metrics.{kind_of, metrics_text, verdict_kind};
 
@@ -13,6 +13,7 @@ use command_output::{
 use forwarders::Refused;
 use generations::{Mark, Verdict};
 use graph_edits::Code;
+use itoa::Buffer;
 use new_devices::BackupRefused;
 use packet_bytes::{WireRefused, moved_text, packet_text, told_text, unread_name};
 use packet_ways::Carried;
@@ -150,6 +151,58 @@ fn along_text(
         length,
     };
     format!(in alloc; "{line}")
+}
+
+/// Adds a number to a text.
+fn push_number(text: &mut String, number: u64) -> Result<(), AllocError>
+    ensures { OnOk result (string_bytes text.new ≡ string_bytes text.old ++ decimal number) }
+{
+    text.push_str(Buffer::new().format(number))
+}
+
+/// Adds the nodes of a route to a text, each behind a space.
+fn push_stops(text: &mut String, nodes: &[u16]) -> Result<(), AllocError>
+    ensures { OnOk result (string_bytes text.new ≡ string_bytes text.old ++ stops_text nodes.now) }
+{
+    for node in nodes {
+        text.push(' ')?;
+        push_number(text, *node as u64)?;
+    }
+    Ok(())
+}
+
+/// Adds a route to a text, as a `RouteLine` writes it.
+fn push_route(
+    text: &mut String,
+    generation: u64,
+    nodes: &[u16],
+    length: u64,
+) -> Result<(), AllocError>
+    ensures { OnOk result (string_bytes text.new ≡ string_bytes text.old ++ route_text generation nodes.now length) }
+{
+    text.push_str("generation=")?;
+    push_number(text, generation)?;
+    text.push_str(" route")?;
+    push_stops(text, nodes)?;
+    text.push_str(" length ")?;
+    push_number(text, length)
+}
+
+/// Adds to a text which way a packet goes.
+fn push_way(alloc: Global, text: &mut String, way: &Carried) -> Result<(), AllocError>
+    ensures { OnOk result (string_bytes text.new ≡ string_bytes text.old ++ way_text way.now) }
+{
+    match way {
+        Carried::Along {
+            generation,
+            nodes,
+            length,
+        } => push_route(text, *generation, nodes, *length),
+        Carried::Unreachable { .. } | Carried::NoNode => {
+            let line = way_line(alloc, way)?;
+            text.push_str(&line)
+        }
+    }
 }
 
 /// Which way a packet goes.
@@ -309,6 +362,20 @@ impl Answer {
         match self {
             Answer::Settled(mark) => verdict_line(alloc, mark.verdict),
             _ => self.text(alloc),
+        }
+    }
+
+    /// Adds the line of an answer to a script to a text: a route in place, since most answers are routes. An `Err` means that memory was
+    /// refused.
+    pub fn push_script_text(&self, alloc: Global, text: &mut String) -> Result<(), AllocError>
+        ensures { OnOk result (string_bytes text.new ≡ string_bytes text.old ++ script_text self.now) }
+    {
+        match self {
+            Answer::Way(way) => push_way(alloc, text, way),
+            _ => {
+                let line = self.script_text(alloc)?;
+                text.push_str(&line)
+            }
         }
     }
 }

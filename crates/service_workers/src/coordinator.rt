@@ -47,7 +47,7 @@ pub struct Backed<J: BoardName> {
 
 /// How a service stands, as far as its threads have told.
 #[derive(Drop)]
-pub struct Standing<J: BoardName> {
+pub struct ServiceState<J: BoardName> {
     /// As the committer told it last.
     pub stand: Stand<J>,
     /// The greatest count that others saw.
@@ -154,8 +154,8 @@ impl<J: BoardName> SharedState<J> {
         self.seen = self.seen.max(generation);
     }
 
-    fn standing(&self) -> Standing<J> {
-        Standing {
+    fn standing(&self) -> ServiceState<J> {
+        ServiceState {
             stand: self.stand.again(),
             reached: self.reached,
             seen: self.seen,
@@ -240,7 +240,7 @@ impl<J: BoardName> Coordinator<J> {
     }
 
     /// How the service stands.
-    pub fn standing<R: Wait>(&self, rt: &R) -> Standing<J> {
+    pub fn standing<R: Wait>(&self, rt: &R) -> ServiceState<J> {
         self.shared.lock(rt).standing()
     }
 

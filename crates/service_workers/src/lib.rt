@@ -29,7 +29,7 @@ mod timings;
 mod told;
 mod word_source;
 
-pub use coordinator::{Backed, Coordinator, News, Standing, Work};
+pub use coordinator::{Backed, Coordinator, News, ServiceState, Work};
 pub use forwarding::ForwarderOf;
 pub use gate::{Gate, OpenGate};
 pub use graphs::{GenerationGraph, Graphs, shared_graph};

@@ -10,7 +10,8 @@ loop-preserved g c =
     let editors = g.J.Stream.editors in
     let tally = c.loop.tally in
     let answered = c.filled-answered.result in
-    let adds = c.in-Some-with.ensures in
+    let more = c.keep.new.self in
+    let adds = c.in-Some-keep.ensures.adds in
     let place : answered.place ≡ tally.count = search rules in (
       tt,
       (
@@ -19,7 +20,7 @@ loop-preserved g c =
           adds.on.0 ∙ c.loop.invariant.1.1.0,
           (
             adds.noted.book ∙ c.loop.invariant.1.1.1.0,
-            one_gathered tally c.in-Some-with.more answered.known input editors answered.answer (string_bytes c.loop.text) (string_bytes c.push_line.new.text) c.loop.invariant.1.1.1.1 adds
+            one_gathered tally more answered.known input editors answered.answer (string_bytes c.loop.text) (string_bytes c.push_line.new.text) c.loop.invariant.1.1.1.1 adds
                 (subst (λ (n : ℕ). ∥ IsSaidAt answered.known input editors n answered.answer ∥₁) place answered.is_answer)
                 (λ gone. subst (λ (n : ℕ). ∥ IsOffAt answered.known input editors n ∥₁) place (answered.is_off gone)) c.in-Ok.ensures,
           ),
@@ -33,7 +34,8 @@ loop-preserved-in-Ok g c =
     let editors = g.J.Stream.editors in
     let tally = c.loop.tally in
     let answered = c.filled-answered.result in
-    let adds = c.in-Some-with.ensures in
+    let more = c.keep.new.self in
+    let adds = c.in-Some-keep.ensures.adds in
     let place : answered.place ≡ tally.count = search rules in (
       tt,
       (
@@ -42,7 +44,7 @@ loop-preserved-in-Ok g c =
           adds.on.0 ∙ c.loop.invariant.1.1.0,
           (
             adds.noted.book ∙ c.loop.invariant.1.1.1.0,
-            one_gathered tally c.in-Some-with.more answered.known input editors answered.answer (string_bytes c.loop.text) (string_bytes c.push_line.new.text) c.loop.invariant.1.1.1.1 adds
+            one_gathered tally more answered.known input editors answered.answer (string_bytes c.loop.text) (string_bytes c.push_line.new.text) c.loop.invariant.1.1.1.1 adds
                 (subst (λ (n : ℕ). ∥ IsSaidAt answered.known input editors n answered.answer ∥₁) place answered.is_answer)
                 (λ gone. subst (λ (n : ℕ). ∥ IsOffAt answered.known input editors n ∥₁) place (answered.is_off gone)) c.in-Ok.ensures,
           ),

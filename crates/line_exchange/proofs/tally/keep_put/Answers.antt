@@ -2,7 +2,7 @@ use Rattle.std.proofs.Common.{rules, ◌≡◌, ◌<◌, ◌+◌, ap, length, �
 use Rattle.std.specs.Prelude.{set}
 use Rattle.requests.specs.Tickets.{last_of}
 use Rattle.line_exchange.proofs.NotedLines.{notes_one}
-use Rattle.line_exchange.proofs.tally.puts_with.Goals as goal
+use Rattle.line_exchange.proofs.tally.keep_put.Goals as goal
 
 pub returns-in_ok-next-in-Settled : goal.returns-in_ok-next-in-Settled
 returns-in_ok-next-in-Settled g c =
@@ -12,5 +12,8 @@ returns-in_ok-next-in-Settled g c =
     let within : mark.session < length puts = search rules in
     let same : noted.number ≡ last_of puts mark.session = search rules in
     let next : c.in_ok-next-in-Settled.next ≡ noted.number + 1 = search rules in
-    notes_one c.args.answered.now.place c.args.answered.now.answer mark noted.line puts _ c.args.lines.now c.learn.result noted.lines noted.number c.in-Settled.is c.learn.ensures.book c.learn.ensures.this c.learn.ensures.that noted.next
-    c.if-line-mark.false c.if-line-mark-2.false c.if-line-answered.false within same (ap (λ (n : ℕ). set puts mark.session n) next)
+    record {
+      more = notes_one c.args.answered.now.place c.args.answered.now.answer mark noted.line puts _ c.args.lines.now c.learn.result noted.lines noted.number c.in-Settled.is c.learn.ensures.book c.learn.ensures.this c.learn.ensures.that noted.next
+          c.if-line-mark.false c.if-line-mark-2.false c.if-line-answered.false within same (ap (λ (n : ℕ). set puts mark.session n) next);
+      book = c.learn.ensures.book;
+    }
