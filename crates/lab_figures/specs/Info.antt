@@ -1,5 +1,5 @@
 -- What `info` prints of a device.
-use Rattle.std.specs.Prelude.{◌≡◌, List, ℕ, Bool, true, false, IsTrue, codes}
+use Rattle.std.specs.Prelude.{List, ℕ, Bool, true, false, IsTrue, codes}
 use Rattle.clap.specs.Walk.{Row, Text}
 use Rattle.command_output.specs.Printing.{Known, PrintsText}
 use Rattle.device_info.specs.Info.{IsInfoOf}

@@ -1,5 +1,5 @@
 -- What `stats` prints of a device.
-use Rattle.std.specs.Prelude.{◌≡◌, ◌⊎◌, ◌<◌, ◌≤◌, ℕ, Bool, true, false, List, [], ◌++◌, codes, map}
+use Rattle.std.specs.Prelude.{◌≡◌, ◌<◌, ◌≤◌, ℕ, Bool, true, false, List, [], ◌++◌, codes}
 use Rattle.std.specs.List.{flat_map}
 use Rattle.clap.specs.Walk.{Row, Text, first_of}
 use Rattle.command_output.specs.Printing.{Known, PrintsText}

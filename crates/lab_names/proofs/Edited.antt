@@ -1,12 +1,11 @@
 -- What an edit printed, by its answer.
-use Rattle.std.proofs.Common.{◌≡◌, ◌⊎◌, inl, inr, subst, ℕ, List, Option, true, false}
+use Rattle.std.proofs.Common.{◌≡◌, inl, inr, subst, ℕ, List, Option, true, false}
 use Rattle.std.specs.Prelude.{Result, Ok, Err}
-use Rattle.std.specs.Result.{IsOk, IsOkAnd}
+use Rattle.std.specs.Result.{IsOkAnd}
 use Rattle.std.specs.Borrow.{Bor}
 use Rattle.command_output.specs.Printing.{Known}
 use Rattle.command_output.specs.declared.ended.Ended.{Ended}
 use Rattle.command_output.specs.declared.fault.Fault.{Fault as Told}
-use Rattle.command_output.specs.declared.fault.Fault.TheVariants.{Output}
 use Rattle.device_commands.specs.Edits.{EditsDevice}
 use Rattle.disk_trait.specs.Disk.{DiskView}
 use Rattle.edge_lists.specs.declared.called.Called.{Called}

@@ -1,5 +1,5 @@
 -- What a route printed, by its answer.
-use Rattle.std.proofs.Common.{◌≡◌, ◌⊎◌, ◌+◌, ◌*◌, ◌<◌, ◌∙◌, arith, inl, inr, ap, subst, sym, ℕ, List, [], ◌∷◌, ◌++◌, append_assoc, get_or, length, take, true, false}
+use Rattle.std.proofs.Common.{◌≡◌, ◌+◌, ◌*◌, ◌<◌, ◌∙◌, arith, inl, inr, ap, subst, sym, ℕ, List, [], ◌∷◌, ◌++◌, append_assoc, get_or, length, take, true, false}
 use Rattle.std.specs.Prelude.{Result, Ok, Err}
 use Rattle.std.specs.Result.{IsOkAnd}
 use Rattle.std.specs.Borrow.{Bor}

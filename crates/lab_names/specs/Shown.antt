@@ -8,9 +8,9 @@ use Rattle.command_output.specs.declared.ended.Ended.TheVariants.{Done}
 use Rattle.disk_trait.specs.Disk.{DiskView}
 use Rattle.disk_trait.specs.declared.disk.Disk.{Ghosts}
 use Rattle.edge_lists.specs.declared.called.Called.{Called}
+use Rattle.lab_files.specs.Beside.{AreCalledBeside}
 use Rattle.lab_names.specs.Edits.{HasEdited}
 use Rattle.lab_names.specs.Routes.{HasRouted}
-use Rattle.lab_networks.specs.Beside.{AreCalledBeside}
 use Rattle.lab_parts.specs.Devices.{OfDevice}
 use Rattle.lab_parts.specs.States.{Holds}
 use Rattle.lab_parts.specs.Words.{AreLandmarks, IsUsual}

@@ -12,7 +12,7 @@ use crate::editing::edit_named;
 use clap::{ArgMatches, Command};
 use command_output::{Ended, Fault};
 use disk_trait::Disk;
-use lab_networks::names_beside;
+use lab_files::names_beside;
 use lab_parts::{
     Places, Sources, all_given, command, fault_of, given, loaded_of, many, optional, told,
     told_memory, told_of, usual, value, word,
@@ -116,7 +116,7 @@ fn numbers_in(
 }
 
 // The device is locked from before its names are read until the change is made.
-#[tactic(auto, using(lab_networks::proofs::Names::called_beside))]
+#[tactic(auto, using(lab_files::proofs::Names::called_beside))]
 fn edit_on<R, D, O, E>(
     rt: &R,
     mut disk: D,

@@ -10,7 +10,7 @@ use crate::ways::route_named;
 use clap::{ArgMatches, Command};
 use command_output::{Ended, Fault};
 use disk_trait::Disk;
-use lab_networks::names_beside;
+use lab_files::names_beside;
 use lab_parts::{
     Sources, all_given, command, device, fault_of, given, landmarks, landmarks_in, loaded_of, many,
     told, told_memory, told_of,
@@ -79,7 +79,7 @@ where
     }
 }
 
-#[tactic(auto, using(lab_networks::proofs::Names::called_beside))]
+#[tactic(auto, using(lab_files::proofs::Names::called_beside))]
 fn route_on<R, D, O, E>(
     rt: &R,
     mut disk: D,

@@ -9,7 +9,7 @@ ghost use Rattle.lab_parts.specs.Words.{rows_in};
 use crate::listing::show_graph;
 use clap::{ArgMatches, Command};
 use disk_trait::Disk;
-use lab_networks::names_beside;
+use lab_files::names_beside;
 use lab_parts::{Sources, command, device, given, loaded_of, told, told_of};
 use std::alloc::{AllocError, Global};
 use std::io::Write;
@@ -52,7 +52,7 @@ where
     }
 }
 
-#[tactic(auto, using(lab_networks::proofs::Names::called_beside))]
+#[tactic(auto, using(lab_files::proofs::Names::called_beside))]
 fn show_on<R, D, O, E>(rt: &R, path: &str, disk: &mut D, out: &mut O, err: &mut E) -> Result<(), u8>
 where
     R: Sources + AllocGlobal,

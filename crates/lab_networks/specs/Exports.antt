@@ -6,10 +6,10 @@ use Rattle.disk_trait.specs.Disk.{DiskView}
 use Rattle.disk_trait.specs.declared.disk.Disk.{Ghosts}
 use Rattle.edge_lists.specs.declared.called.Called.{Called}
 use Rattle.graph_edits.specs.Edges.{Network, most_nodes}
-use Rattle.lab_networks.specs.Beside.{AreCalledBeside, names_in}
-use Rattle.lab_networks.specs.Networks.{NameList, PrintsNetwork}
-use Rattle.lab_networks.specs.declared.networks.Form.{Form}
-use Rattle.lab_networks.specs.declared.networks.Form.TheVariants.{Edges, Csv, Dimacs, Json, Dot}
+use Rattle.lab_files.specs.Beside.{AreCalledBeside, names_in}
+use Rattle.lab_files.specs.Networks.{NameList, PrintsNetwork}
+use Rattle.lab_files.specs.declared.networks.Form.{Form}
+use Rattle.lab_files.specs.declared.networks.Form.TheVariants.{Edges, Csv, Dimacs, Json, Dot}
 use Rattle.lab_parts.specs.Devices.{OfDevice}
 use Rattle.lab_parts.specs.States.{Holds}
 use Rattle.layout_2.specs.State.{State}

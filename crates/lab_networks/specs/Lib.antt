@@ -1,5 +1,3 @@
 pub mod Taken
-pub mod Networks
-pub mod Beside
 pub mod Exports
 pub mod Words

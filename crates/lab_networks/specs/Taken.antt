@@ -1,5 +1,5 @@
 -- What an import came to, and what is printed of it.
-use Rattle.std.specs.Prelude.{◌≡◌, ◌||◌, ℕ, Bool, true, false, List, [], ◌∷◌, ◌++◌, OnOk, Result, Ok, Err, codes, decimal}
+use Rattle.std.specs.Prelude.{◌≡◌, ℕ, Bool, true, List, [], ◌∷◌, ◌++◌, OnOk, Result, Err, codes, decimal}
 use Rattle.std.specs.FinMap.{len}
 use Rattle.checkpoint.specs.StoreWords.{disk_of, state_of}
 use Rattle.checkpoint.specs.declared.store.Store.{Store}

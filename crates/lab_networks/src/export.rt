@@ -7,13 +7,12 @@ ghost use Rattle.lab_parts.specs.Devices.{IsRefusal};
 ghost use Rattle.lab_parts.specs.Grammar.{IsCommandOf};
 ghost use Rattle.lab_parts.specs.Words.{rows_in};
 
-use crate::calling::names_beside;
-use crate::networks::{ExportRefused, Form, export_graph};
 use clap::{ArgMatches, Command};
 use command_output::Fault;
 use disk_trait::Disk;
 use edge_lists::{Called, Names};
 use graph_edits::{Graph, MOST_NODES};
+use lab_files::{ExportRefused, Form, export_graph, names_beside};
 use lab_parts::{
     PrintRefused, Sources, command, device, given, loaded_of, told, told_memory, told_of, value,
 };
@@ -137,7 +136,7 @@ fn dot_in(alloc: Global, words: Option<&str>) -> Result<Result<Form, &'static st
 }
 
 // Prints the network of a device, its nodes by what they are called beside it.
-#[tactic(auto, using(crate::proofs::Names::called_beside))]
+#[tactic(auto, using(lab_files::proofs::Names::called_beside))]
 fn export_on<R, D, O, E>(
     rt: &R,
     path: &str,

@@ -8,10 +8,8 @@ ghost use Rattle.lab_parts.specs.Devices.{IsRefusal};
 ghost use Rattle.lab_parts.specs.Grammar.{IsCommandOf};
 ghost use Rattle.lab_parts.specs.Words.{rows_in};
 
-use crate::beside::{Beside, Kept, NamesFile, called_in, kept_alone, kept_of, settle};
-use crate::files::text_of;
+use crate::names_file::NamesFile;
 use crate::taken::{Wanted, take_edges};
-use crate::texts::{FileForm, Listed, Place, form_named, network_in, told_in};
 use checkpoint::{DEVICE_LEN, Store};
 use clap::{ArgMatches, Command};
 use command_output::Fault;
@@ -21,6 +19,8 @@ use edge_lists::{
     each_once, node_in,
 };
 use graph_edits::MOST_NODES;
+use lab_files::beside::{Beside, Kept, called_in, kept_alone, kept_of, settle};
+use lab_files::{FileForm, Listed, Place, form_named, network_in, text_of, told_in};
 use lab_parts::{
     Places, Sources, command, fault_of, flag, given, is_given, store_in, told, told_memory,
     told_of, value, word,

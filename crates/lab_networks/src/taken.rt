@@ -9,11 +9,11 @@ ghost use Rattle.network_import.specs.declared.order.NamesAt.TheVariants.{Old};
 ghost use Rattle.command_output.specs.Printing.{PrintsText};
 ghost use Rattle.lab_networks.specs.Taken.{IsTaken, totals_of};
 
-use crate::texts::{Place, told_in};
 use checkpoint::Store;
 use command_output::Fault;
 use disk_trait::Disk;
 use graph_edits::Code;
+use lab_files::{Place, told_in};
 use lab_parts::{PrintRefused, print, told, told_of};
 use network_import::{ImportRefused, Incoming, NamedRefused, NamesPlace, Progress, import_named};
 use std::alloc::{AllocError, Global};

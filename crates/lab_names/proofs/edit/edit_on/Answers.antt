@@ -1,5 +1,5 @@
 use Rattle.std.proofs.Common.{rules}
-use Rattle.lab_networks.proofs.Names.{called_beside}
+use Rattle.lab_files.proofs.Names.{called_beside}
 use Rattle.layout_2.specs.Loading.{state_of}
 use Rattle.lab_names.proofs.edit.edit_on.Goals as goal
 

@@ -1,4 +1,4 @@
-use Rattle.std.proofs.Common.{arith, ℕ, List}
+use Rattle.std.proofs.Common.{arith, List}
 use Rattle.edge_lists.proofs.HeaderLemmas.{nowhere}
 use Rattle.graph_edits.specs.declared.edits.Op.{Op}
 use Rattle.node_names.specs.NamedOps.{AreOpsBy}

@@ -1,6 +1,6 @@
 use Rattle.std.proofs.Common.{rules}
 use Rattle.graph_edits.specs.Edges.{most_nodes}
-use Rattle.lab_networks.proofs.Names.{called_beside}
+use Rattle.lab_files.proofs.Names.{called_beside}
 use Rattle.layout_2.specs.Loading.{state_of}
 use Rattle.lab_networks.proofs.export.export_on.Goals as goal
 

@@ -1,15 +1,13 @@
 //! What stands beside a device: how its nodes are called.
 ghost use Rattle.std.specs.Prelude.{IfErr, IfOk};
 ghost use Rattle.edge_lists.specs.Called.{IsCalled};
-ghost use Rattle.lab_networks.specs.Beside.{IsBeside, IsKept};
+ghost use Rattle.lab_files.specs.Beside.{IsBeside, IsKept};
 ghost use Rattle.lab_parts.specs.Devices.{IsRefusal};
 
 use crate::files::text_of;
-use crate::taken::ToldPlace;
 use edge_lists::{Called, read_called};
 use graph_edits::{Graph, MOST_NODES};
 use lab_parts::{Sources, told_at, told_memory, told_of};
-use network_import::{NamesAt, NamesFault, NamesPlace};
 use std::alloc::{AllocError, Global};
 use std::fs::{self, File, OpenOptions};
 use std::io::{self, ErrorKind, Write};
@@ -18,16 +16,16 @@ use std::rt::Files;
 
 /// The paths of the files beside a device.
 #[derive(Drop)]
-pub(crate) struct Beside {
+pub struct Beside {
     /// What says how nodes are called.
-    pub(crate) names: String,
+    pub names: String,
     /// What is to take its place.
-    pub(crate) laid: String,
+    pub laid: String,
 }
 
 impl Beside {
     /// The paths beside a device.
-    pub(crate) fn of(alloc: Global, device: &str) -> Result<Beside, AllocError>
+    pub fn of(alloc: Global, device: &str) -> Result<Beside, AllocError>
         ensures { IfOk result (IsBeside device.now) }
     {
         Ok(Beside {
@@ -39,7 +37,7 @@ impl Beside {
 
 /// How the text of a file calls nodes, of which it may name so many. What isn't understood of it is told, and the exit
 /// status answered.
-pub(crate) fn called_in<'a, E: Write>(
+pub fn called_in<'a, E: Write>(
     alloc: Global,
     file: &str,
     text: &'a str,
@@ -87,14 +85,14 @@ fn leaves_out<E: Write>(
 
 /// The text that says how nodes are called, and whether it still has to take its place.
 #[derive(Drop)]
-pub(crate) struct Kept {
-    pub(crate) text: Option<String>,
-    pub(crate) is_laid: bool,
+pub struct Kept {
+    pub text: Option<String>,
+    pub is_laid: bool,
 }
 
 impl Kept {
     /// The file that has the text.
-    pub(crate) fn file<'a>(&self, beside: &'a Beside) -> &'a str {
+    pub fn file<'a>(&self, beside: &'a Beside) -> &'a str {
         if self.is_laid {
             beside.laid.as_str()
         } else {
@@ -105,7 +103,7 @@ impl Kept {
 
 /// What is kept beside the device of this network. What an import has laid counts where the network has an edge at a node
 /// that isn't named without it: so the import was cut off when its edges were in.
-pub(crate) fn kept_of<R: Sources + AllocGlobal, E: Write>(
+pub fn kept_of<R: Sources + AllocGlobal, E: Write>(
     rt: &R,
     beside: &Beside,
     graph: &Graph,
@@ -131,11 +129,7 @@ pub(crate) fn kept_of<R: Sources + AllocGlobal, E: Write>(
 }
 
 /// What is kept beside a device that isn't there.
-pub(crate) fn kept_alone<R: Sources, E: Write>(
-    rt: &R,
-    beside: &Beside,
-    err: &mut E,
-) -> Result<Kept, u8>
+pub fn kept_alone<R: Sources, E: Write>(rt: &R, beside: &Beside, err: &mut E) -> Result<Kept, u8>
     ensures { IfErr result IsRefusal }
 {
     Ok(Kept {
@@ -145,7 +139,7 @@ pub(crate) fn kept_alone<R: Sources, E: Write>(
 }
 
 /// Puts what is laid in its place, where it is what is kept; else takes it away.
-pub(crate) fn settle<R: Files<File = File>, E: Write>(
+pub fn settle<R: Files<File = File>, E: Write>(
     rt: &R,
     beside: &Beside,
     is_laid: bool,
@@ -177,65 +171,16 @@ fn sync_folder<R: Files<File = File>>(rt: &R, path: &str) -> io::Result<()> {
     OpenOptions::new().read(true).open(rt, folder)?.sync_all()
 }
 
-// Lays a text beside what is there.
-fn lay<R: Files<File = File>>(rt: &R, beside: &Beside, text: &str) -> io::Result<()> {
+/// Lays a text beside what is there.
+pub fn lay<R: Files<File = File>>(rt: &R, beside: &Beside, text: &str) -> io::Result<()> {
     let mut made = File::create(rt, beside.laid.as_str())?;
     made.write_all(text.as_bytes())?;
     made.sync_all()?;
     sync_folder(rt, beside.laid.as_str())
 }
 
-// Puts what is laid in its place.
-fn put<R: Files<File = File>>(rt: &R, beside: &Beside) -> io::Result<()> {
+/// Puts what is laid in its place.
+pub fn put<R: Files<File = File>>(rt: &R, beside: &Beside) -> io::Result<()> {
     fs::rename(rt, beside.laid.as_str(), beside.names.as_str())?;
     sync_folder(rt, beside.names.as_str())
-}
-
-/// The place of a text beside a device; without a text nothing is written.
-#[derive(Drop)]
-pub(crate) struct NamesFile<'a, R> {
-    pub(crate) rt: &'a R,
-    pub(crate) beside: &'a Beside,
-    pub(crate) text: Option<&'a str>,
-    pub(crate) at: NamesAt,
-    /// What went wrong, where something did.
-    pub(crate) error: Option<io::Error>,
-}
-
-impl<R> ToldPlace for NamesFile<'_, R> {
-    fn tell<E: Write>(&self, err: &mut E) {
-        let file = match self.at {
-            NamesAt::Old => self.beside.laid.as_str(),
-            _ => self.beside.names.as_str(),
-        };
-        if let Some(error) = &self.error {
-            let _status = told_of(err, file, error);
-        }
-    }
-}
-
-impl<R: Files<File = File>> NamesPlace for NamesFile<'_, R> {
-    ghost at = { λ names. names.at };
-
-    fn lay(&mut self) -> Result<(), NamesFault> {
-        if let Some(text) = self.text {
-            if let Err(error) = lay(self.rt, self.beside, text) {
-                self.error = Some(error);
-                return Err(NamesFault);
-            }
-        }
-        self.at = NamesAt::Laid;
-        Ok(())
-    }
-
-    fn put(&mut self) -> Result<(), NamesFault> {
-        if self.text.is_some() {
-            if let Err(error) = put(self.rt, self.beside) {
-                self.error = Some(error);
-                return Err(NamesFault);
-            }
-        }
-        self.at = NamesAt::Put;
-        Ok(())
-    }
 }

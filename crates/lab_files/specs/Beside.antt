@@ -5,9 +5,9 @@ use Rattle.clap.specs.Walk.{Text}
 use Rattle.edge_lists.specs.Called.{IsCalled}
 use Rattle.edge_lists.specs.declared.called.Called.{Called}
 use Rattle.edge_lists.specs.declared.called.Called.TheVariants.{Numbers, Names}
-use Rattle.lab_networks.specs.declared.beside.Beside.{Beside}
-use Rattle.lab_networks.specs.declared.beside.Kept.{Kept}
-use Rattle.lab_networks.specs.declared.calling.NamesBeside.{NamesBeside}
+use Rattle.lab_files.specs.declared.beside.Beside.{Beside}
+use Rattle.lab_files.specs.declared.beside.Kept.{Kept}
+use Rattle.lab_files.specs.declared.calling.NamesBeside.{NamesBeside}
 
 -- the files beside the device of a path
 pub record IsBeside (device : Text) (beside : Beside) : Type 0 where

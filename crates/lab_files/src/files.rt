@@ -18,11 +18,7 @@ fn line_at(bytes: &[u8], place: usize) -> usize {
 }
 
 /// The text of a file, `None` where it isn't there. What else went wrong is told, and the exit status answered.
-pub(crate) fn text_of<R: Sources, E: Write>(
-    rt: &R,
-    file: &str,
-    err: &mut E,
-) -> Result<Option<String>, u8>
+pub fn text_of<R: Sources, E: Write>(rt: &R, file: &str, err: &mut E) -> Result<Option<String>, u8>
     ensures text { IfOk result (λ text. R.stands file.now (option_map string_bytes text)) }
     ensures err { IfErr result IsRefusal }
 {

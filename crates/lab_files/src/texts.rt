@@ -15,13 +15,13 @@ use written_values::number;
 
 /// The form of a file.
 #[derive(Clone, Copy, Debug, PartialEq, Eq, Drop)]
-pub(crate) enum FileForm {
+pub enum FileForm {
     Lines(Writing),
     Json,
 }
 
 /// The form of that name, where a list has its header so; or what isn't understood.
-pub(crate) fn form_named(name: &str, heading: Heading) -> Result<FileForm, &'static str> {
+pub fn form_named(name: &str, heading: Heading) -> Result<FileForm, &'static str> {
     if name == "edges" {
         return Ok(FileForm::Lines(Writing::Edges(heading, None)));
     }
@@ -51,7 +51,7 @@ pub enum Place {
 
 impl Place {
     /// Its word.
-    pub(crate) fn word(self) -> &'static str {
+    pub fn word(self) -> &'static str {
         match self {
             Place::Line => "line",
             Place::Link => "link",
@@ -61,7 +61,7 @@ impl Place {
 }
 
 /// Tells what is wrong at a place of a file, counted from 1, and answers the exit status.
-pub(crate) fn told_in<E: Write, T: Display + Drop>(
+pub fn told_in<E: Write, T: Display + Drop>(
     err: &mut E,
     status: u8,
     file: &str,
@@ -81,35 +81,35 @@ pub(crate) fn told_in<E: Write, T: Display + Drop>(
 
 /// What a file says of a network.
 #[derive(Drop)]
-pub(crate) struct Listed {
+pub struct Listed {
     form: FileForm,
-    pub(crate) rows: Vec<Row>,
+    pub rows: Vec<Row>,
     /// How many nodes there are, where that is said.
-    pub(crate) nodes: Option<u16>,
+    pub nodes: Option<u16>,
     /// What nodes are called, in order, where that is said.
-    pub(crate) labels: Vec<String>,
+    pub labels: Vec<String>,
     // Whether they are called by names, numbers too.
     by_names: bool,
 }
 
 impl Listed {
     /// Whether lines say edges, and not the arcs of each.
-    pub(crate) fn is_edge_list(&self) -> bool {
+    pub fn is_edge_list(&self) -> bool {
         matches!(self.form, FileForm::Lines(Writing::Edges(..)))
     }
 
     /// Whether nodes are called by numbers from 1.
-    pub(crate) fn is_dimacs(&self) -> bool {
+    pub fn is_dimacs(&self) -> bool {
         matches!(self.form, FileForm::Lines(Writing::Dimacs))
     }
 
     /// Whether nodes are called by names, numbers too.
-    pub(crate) fn is_by_names(&self) -> bool {
+    pub fn is_by_names(&self) -> bool {
         self.by_names
     }
 
     /// What says an edge: a line, or a link of JSON.
-    pub(crate) fn place(&self) -> Place {
+    pub fn place(&self) -> Place {
         match self.form {
             FileForm::Json => Place::Link,
             FileForm::Lines(_) => Place::Line,
@@ -117,7 +117,7 @@ impl Listed {
     }
 
     /// Where the node of that number, from 1, is called: in a list behind its first line.
-    pub(crate) fn label_at(&self, number: usize) -> (Place, usize) {
+    pub fn label_at(&self, number: usize) -> (Place, usize) {
         match self.form {
             FileForm::Json => (Place::Node, number),
             FileForm::Lines(_) => (Place::Line, number.saturating_add(1)),
@@ -125,14 +125,14 @@ impl Listed {
     }
 
     /// How the first node is written, where nodes are called by numbers.
-    pub(crate) fn first(&self) -> u16 {
+    pub fn first(&self) -> u16 {
         if self.is_dimacs() { 1 } else { 0 }
     }
 }
 
 /// What a text says, which may begin with a byte order mark; it tells its form, where none is named. What isn't
 /// understood is told, and how far weights are from those that are multiplied.
-pub(crate) fn network_in<E: Write>(
+pub fn network_in<E: Write>(
     alloc: Global,
     file: &str,
     text: &str,

@@ -1,6 +1,6 @@
 //! How the nodes of a device are called, for commands that don't change it.
 ghost use Rattle.std.specs.Prelude.{IfErr, IfOk};
-ghost use Rattle.lab_networks.specs.Beside.{AreCalled, IsReadBeside, text_beside};
+ghost use Rattle.lab_files.specs.Beside.{AreCalled, IsReadBeside, text_beside};
 ghost use Rattle.lab_parts.specs.Devices.{IsRefusal};
 
 use crate::beside::{Beside, Kept, called_in, kept_of, settle};

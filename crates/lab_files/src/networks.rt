@@ -3,7 +3,7 @@ ghost use Rattle.std.specs.Prelude.{◌≡◌, ◌≢◌, IfErr, IfOk, OnOk};
 ghost use Rattle.written_values.specs.Reading.{IfRead};
 ghost use Rattle.written_values.specs.Words.{IsWithin};
 ghost use Rattle.edge_lists.specs.Reading.{IfNoneRead};
-ghost use Rattle.lab_networks.specs.Networks.{AreMarksBy, IsExportRefused, IsListOrCsv, IsTextOf, LacksNode, PrintsNetwork};
+ghost use Rattle.lab_files.specs.Networks.{AreMarksBy, IsExportRefused, IsListOrCsv, IsTextOf, LacksNode, PrintsNetwork};
 
 use edge_lists::{Edge, dimacs_text, edge_list, list_head, node_link_text};
 use figure_lines::{Mark, edges_of, marks_of, network_csv, network_dot};
@@ -36,7 +36,7 @@ pub enum ExportRefused {
 }
 
 impl From<AllocError> for ExportRefused {
-    ghost use Rattle.lab_networks.specs.declared.networks.ExportRefused.TheVariants.{Print};
+    ghost use Rattle.lab_files.specs.declared.networks.ExportRefused.TheVariants.{Print};
     ghost use Rattle.lab_parts.specs.declared.telling.PrintRefused.TheVariants.{Memory};
 
     ghost from_gives = { λ _ e. e ≡ Print Memory };
@@ -47,7 +47,7 @@ impl From<AllocError> for ExportRefused {
 }
 
 impl From<PrintRefused> for ExportRefused {
-    ghost use Rattle.lab_networks.specs.declared.networks.ExportRefused.TheVariants.{Print};
+    ghost use Rattle.lab_files.specs.declared.networks.ExportRefused.TheVariants.{Print};
 
     ghost from_gives = { λ refused e. e ≡ Print refused };
 

@@ -3,10 +3,9 @@ use Rattle.std.proofs.Common.{ℕ, Bool, true, false, inl, inr}
 use Rattle.std.specs.Prelude.{Option}
 use Rattle.clap.specs.Walk.{Text}
 use Rattle.edge_lists.specs.declared.called.Called.{Called}
-use Rattle.lab_networks.specs.Beside.{AreCalled, AreCalledBeside, IsBeside, IsKept, IsNamesFile, IsReadBeside, kept_file, text_beside}
-use Rattle.lab_networks.specs.declared.beside.Beside.{Beside}
-use Rattle.lab_networks.specs.declared.beside.Kept.{Kept}
-use Rattle.lab_networks.specs.declared.calling.NamesBeside.{NamesBeside}
+use Rattle.lab_files.specs.Beside.{AreCalled, AreCalledBeside, IsBeside, IsKept, IsNamesFile, IsReadBeside, kept_file, text_beside}
+use Rattle.lab_files.specs.declared.beside.Beside.{Beside}
+use Rattle.lab_files.specs.declared.calling.NamesBeside.{NamesBeside}
 
 is_file : (device : Text) (beside : Beside) (is_laid : Bool) → IsBeside device beside → IsNamesFile device (kept_file beside is_laid)
 is_file device beside true is = inr is.laid

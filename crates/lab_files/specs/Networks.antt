@@ -1,5 +1,5 @@
 -- What `export` prints of a network.
-use Rattle.std.specs.Prelude.{◌≡◌, ◌⊎◌, ◌++◌, ℕ, List, [], Bool, Option, Some, None, map}
+use Rattle.std.specs.Prelude.{◌≡◌, ◌⊎◌, ◌++◌, ℕ, List, [], Option, Some, None, map}
 use Rattle.std.specs.Borrow.{Bor}
 use Rattle.std.specs.FinMap.{entries}
 use Rattle.command_output.specs.Printing.{Known, PrintsText}
@@ -10,10 +10,10 @@ use Rattle.edge_lists.specs.Written.{IsList, dimacs_text, head_lines, names_text
 use Rattle.figure_lines.specs.Networks.{AreMarks, dot_text, edge_at, edge_rows, names_of}
 use Rattle.figure_lines.specs.declared.marks.Mark.{Mark}
 use Rattle.graph_edits.specs.Edges.{Network}
-use Rattle.lab_networks.specs.declared.networks.ExportRefused.{ExportRefused}
-use Rattle.lab_networks.specs.declared.networks.ExportRefused.TheVariants.{Words, Print}
-use Rattle.lab_networks.specs.declared.networks.Form.{Form}
-use Rattle.lab_networks.specs.declared.networks.Form.TheVariants.{Edges, Csv, Dimacs, Json, Dot}
+use Rattle.lab_files.specs.declared.networks.ExportRefused.{ExportRefused}
+use Rattle.lab_files.specs.declared.networks.ExportRefused.TheVariants.{Words, Print}
+use Rattle.lab_files.specs.declared.networks.Form.{Form}
+use Rattle.lab_files.specs.declared.networks.Form.TheVariants.{Edges, Csv, Dimacs, Json, Dot}
 use Rattle.landmarks.specs.Chosen.{IsBound, chosen}
 use Rattle.written_values.specs.Reading.{texts_of}
 use Rattle.written_values.specs.Words.{AreWords, IsWithin}
