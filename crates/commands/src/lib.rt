@@ -40,6 +40,7 @@ mod clocked_gate;
 mod outcome;
 mod running;
 mod service;
+mod sites;
 mod streams;
 
 pub use file_commands::{
@@ -48,4 +49,5 @@ pub use file_commands::{
 pub use outcome::Outcome;
 pub use running::{run_on, run_words, run_words_at};
 pub use service::reading_fault;
+pub use sites::{At, Sites, SitesOf};
 pub use streams::Streams;

@@ -11,12 +11,13 @@ ghost use Rattle.commands.specs.Runs.{AnyPut, MakesOnlyLive, PutsOnlyAsked, Runs
 
 use crate::outcome::{Outcome, told};
 use crate::service::{LiveService, Service, run_live, run_serve};
+use crate::sites::{At, Sites};
 use crate::streams::Streams;
 use command_line::{Task, WordsRefused, understood};
 use command_output::{Fault, FaultWriter, WatchedWriter};
 use device_files::DeviceFile;
 use disk_trait::Disk;
-use file_commands::{Devices, FileDevices, run_task};
+use file_commands::{FileDevices, run_task};
 use new_devices::{NewDevices, SystemDevices};
 use service_threads::ServiceConfig;
 use std::fs::File;
@@ -87,111 +88,100 @@ where
         out,
         err: &mut faults,
     };
-    run_lent(rt, &mut devices, &mut backups, tables, words, lent).status()
+    let at = At::new(&mut devices, &mut backups, tables);
+    run_lent(rt, at, words, lent).status()
 }
 
 /// Does what the words ask for on devices of any kind, and answers how it ended. The backups that lines of a live service ask for are
 /// made at a place of their own.
-pub fn run_on<R, F, N, T, S, O, E>(
+pub fn run_on<R, P, S, O, E>(
     rt: &R,
-    devices: &mut F,
-    backups: &mut N,
-    tables: &mut T,
+    at: At<'_, '_, '_, P>,
     words: &[&str],
     streams: &mut Streams<S, O, E>,
 ) -> Outcome
 where
     R: AllocGlobal + Clock + Threads + Wait + Sync,
-    F: Devices,
-    N: NewDevices + Send,
-    N::Device: Send,
-    T: TableFiles + Send,
+    P: Sites,
+    <P::Backups as NewDevices>::Device: Send,
     S: Read + Send,
     O: Write,
     E: FaultWriter,
-    ensures runs { RunsWords F.Device.Disk (HasDone F.opened F.events devices.old devices.new)
-        (PutBy T.puts tables.old tables.new) (texts words.now)
+    ensures runs { RunsWords P.Devices.Device.Disk (HasDone P.Devices.opened P.Devices.events at.entry.devices.now at.exit.0.now)
+        (PutBy P.Tables.puts at.entry.tables.now at.exit.1.1.0.now) (texts words.now)
         S.remaining O.contents E.contents streams.old streams.new result }
 
     // A fault that wasn't told couldn't be: a write of this writer has failed.
     ensures untold { (fault : Fault) → result ≡ Outcome.Untold fault → IsTrue (E.has_failed streams.new.err) }
 
-    ensures unput { PutsOnlyAsked (texts words.now) T.puts tables.old tables.new }
+    ensures unput { PutsOnlyAsked (texts words.now) P.Tables.puts at.entry.tables.now at.exit.1.1.0.now }
 
-    ensures unmade { MakesOnlyLive (texts words.now) N.events backups.old backups.new }
+    ensures unmade { MakesOnlyLive (texts words.now) P.Backups.events at.entry.backups.now at.exit.1.0.now }
 {
     let lent = Streams {
         script: &mut streams.script,
         out: &mut streams.out,
         err: &mut streams.err,
     };
-    run_lent(rt, devices, backups, tables, words, lent)
+    run_lent(rt, at, words, lent)
 }
 
 // The same over a reader and writers that are lent.
-fn run_lent<R, F, N, T, S, O, E>(
+fn run_lent<R, P, S, O, E>(
     rt: &R,
-    devices: &mut F,
-    backups: &mut N,
-    tables: &mut T,
+    at: At<'_, '_, '_, P>,
     words: &[&str],
     streams: Streams<&mut S, &mut O, &mut E>,
 ) -> Outcome
 where
     R: AllocGlobal + Clock + Threads + Wait + Sync,
-    F: Devices,
-    N: NewDevices + Send,
-    N::Device: Send,
-    T: TableFiles + Send,
+    P: Sites,
+    <P::Backups as NewDevices>::Device: Send,
     S: Read + Send,
     O: Write,
     E: FaultWriter,
-    ensures runs { RunsWords F.Device.Disk (HasDone F.opened F.events devices.old devices.new)
-        (PutBy T.puts tables.old tables.new) (texts words.now)
+    ensures runs { RunsWords P.Devices.Device.Disk (HasDone P.Devices.opened P.Devices.events at.entry.devices.now at.exit.0.now)
+        (PutBy P.Tables.puts at.entry.tables.now at.exit.1.1.0.now) (texts words.now)
         S.remaining O.contents E.contents (streams_of streams.entry.script.now streams.entry.out.now streams.entry.err.now)
         (streams_of streams.exit.0.now streams.exit.1.0.now streams.exit.1.1.0.now) result }
 
     ensures untold { (fault : Fault) → result ≡ Outcome.Untold fault → IsTrue (E.has_failed streams.exit.1.1.0.now) }
 
-    ensures unput { PutsOnlyAsked (texts words.now) T.puts tables.old tables.new }
+    ensures unput { PutsOnlyAsked (texts words.now) P.Tables.puts at.entry.tables.now at.exit.1.1.0.now }
 
-    ensures unmade { MakesOnlyLive (texts words.now) N.events backups.old backups.new }
+    ensures unmade { MakesOnlyLive (texts words.now) P.Backups.events at.entry.backups.now at.exit.1.0.now }
 {
     match understood(rt.alloc(), words) {
-        Ok(task) => run_understood(rt, devices, backups, tables, task, streams),
+        Ok(task) => run_understood(rt, at, task, streams),
         Err(refused) => told(streams.err, Err(fault_of(refused))),
     }
 }
 
 // Does what a task asks for, and answers how it ended.
-fn run_understood<R, F, N, T, S, O, E>(
+fn run_understood<R, P, S, O, E>(
     rt: &R,
-    devices: &mut F,
-    backups: &mut N,
-    tables: &mut T,
+    at: At<'_, '_, '_, P>,
     task: Task<'_>,
     streams: Streams<&mut S, &mut O, &mut E>,
 ) -> Outcome
 where
     R: AllocGlobal + Clock + Threads + Wait + Sync,
-    F: Devices,
-    N: NewDevices + Send,
-    N::Device: Send,
-    T: TableFiles + Send,
+    P: Sites,
+    <P::Backups as NewDevices>::Device: Send,
     S: Read + Send,
     O: Write,
     E: FaultWriter,
     requires { MayRun task }
-    ensures runs { RunsTask F.Device.Disk (HasDone F.opened F.events devices.old devices.new)
-        (PutBy T.puts tables.old tables.new) task.entry
+    ensures runs { RunsTask P.Devices.Device.Disk (HasDone P.Devices.opened P.Devices.events at.entry.devices.now at.exit.0.now)
+        (PutBy P.Tables.puts at.entry.tables.now at.exit.1.1.0.now) task.entry
         S.remaining O.contents E.contents (streams_of streams.entry.script.now streams.entry.out.now streams.entry.err.now)
         (streams_of streams.exit.0.now streams.exit.1.0.now streams.exit.1.1.0.now) result }
 
     ensures untold { (fault : Fault) → result ≡ Outcome.Untold fault → IsTrue (E.has_failed streams.exit.1.1.0.now) }
 
-    ensures unput { ¬ IsOfTables task.entry → ¬ IsLiveService task.entry → T.puts tables.new ≡ T.puts tables.old }
+    ensures unput { ¬ IsOfTables task.entry → ¬ IsLiveService task.entry → P.Tables.puts at.exit.1.1.0.now ≡ P.Tables.puts at.entry.tables.now }
 
-    ensures unmade { ¬ IsLiveService task.entry → N.events backups.new ≡ N.events backups.old }
+    ensures unmade { ¬ IsLiveService task.entry → P.Backups.events at.exit.1.0.now ≡ P.Backups.events at.entry.backups.now }
 {
     match task {
         Task::Serve {
@@ -214,17 +204,27 @@ where
             };
             match live {
                 None => {
+                    let At {
+                        devices,
+                        backups: _,
+                        tables: _,
+                    } = at;
                     let Streams { script, out, err } = streams;
                     let ended = run_serve(rt, devices, service, script, out);
                     told(err, ended)
                 }
                 Some(rounds) => {
                     let live = LiveService { service, rounds };
-                    run_live(rt, devices, backups, tables, live, streams)
+                    run_live(rt, at, live, streams)
                 }
             }
         }
         task => {
+            let At {
+                devices,
+                backups: _,
+                tables,
+            } = at;
             let ended = run_task(rt, devices, tables, task, streams.out);
             told(streams.err, ended)
         }

@@ -9,6 +9,7 @@ ghost use Rattle.commands.specs.Runs.{IsEndOf, RunsLive, streams_of};
 
 use crate::clocked_gate::ClockedGate;
 use crate::outcome::{Outcome, told};
+use crate::sites::{At, Sites};
 use crate::streams::Streams;
 use command_output::{Ended, Fault, FaultWriter};
 use file_commands::{Access, Devices};
@@ -22,7 +23,7 @@ use std::io::{BufReader, ErrorKind, Read, Write};
 use std::rt::Clock;
 use std::sync::Wait;
 use std::thread::Threads;
-use table_files::{LentTables, TableFiles};
+use table_files::LentTables;
 use written_values::{LandmarkWords, ScriptLine, script};
 
 // The script that a reader gives, read to its end. One that isn't understood is none for so many editors.
@@ -132,31 +133,33 @@ fn outcome_of(served: Served) -> Outcome
 
 /// Answers the lines that a reader gives on a device, each as it comes, until the reader's end. A fault is told. The tables that lines ask
 /// for are put at this place, and the backups made at that one.
-pub(crate) fn run_live<R, F, N, T, S, O, E>(
+pub(crate) fn run_live<R, P, S, O, E>(
     rt: &R,
-    devices: &mut F,
-    backups: &mut N,
-    tables: &mut T,
+    at: At<'_, '_, '_, P>,
     live: LiveService<'_>,
     streams: Streams<&mut S, &mut O, &mut E>,
 ) -> Outcome
 where
     R: AllocGlobal + Clock + Threads + Wait + Sync,
-    F: Devices,
-    N: NewDevices + Send,
-    N::Device: Send,
-    T: TableFiles + Send,
+    P: Sites,
+    <P::Backups as NewDevices>::Device: Send,
     S: Read + Send,
     O: Write,
     E: FaultWriter,
     requires { IsServiceConfig live.service.config }
-    ensures runs { RunsLive F.Device.Disk (HasDone F.opened F.events devices.old devices.new) live.entry.service.device.now
+    ensures runs { RunsLive P.Devices.Device.Disk (HasDone P.Devices.opened P.Devices.events at.entry.devices.now at.exit.0.now)
+        live.entry.service.device.now
         live.entry.service.config.editors live.entry.service.words S.remaining O.contents E.contents
         (streams_of streams.entry.script.now streams.entry.out.now streams.entry.err.now)
         (streams_of streams.exit.0.now streams.exit.1.0.now streams.exit.1.1.0.now) result }
 
     ensures untold { (fault : Fault) → result ≡ Outcome.Untold fault → IsTrue (E.has_failed streams.exit.1.1.0.now) }
 {
+    let At {
+        devices,
+        backups,
+        tables,
+    } = at;
     let Streams { script, out, err } = streams;
     let LiveService { service, rounds } = live;
     let Service {
@@ -184,13 +187,12 @@ where
         lines: input,
         rounds: u32::from(rounds),
     };
-    let around = Surroundings {
-        gate: &ClockedGate::new(rt),
-        places: Places {
-            tables: LentTables::new(tables),
-            devices: LentDevices::new(backups),
-        },
+    let gate = ClockedGate::new(rt);
+    let places = Places {
+        tables: LentTables::new(tables),
+        devices: LentDevices::new(backups),
     };
+    let around = Surroundings::new(&gate, places);
     let (served, back) = serve_live(env, given, input, around, out, err);
     close_back(devices, back);
     outcome_of(served)

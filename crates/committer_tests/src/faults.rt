@@ -43,11 +43,7 @@ const COUNTS: [(u64, u64, u64); 8] = [
 fn the_first_and_the_last_sync_of_a_round_fail(rt: HostRuntime) {
     for (call, word, count) in &COUNTS {
         let found = count_after(rt, rt.alloc(), Plan::Fail(*call), *word);
-        same(
-            &rt,
-            (*call, *word, found),
-            (*call, *word, *count),
-            "a crash",
-        );
+        let found = (*call, *word, found);
+        same(&rt, found, (*call, *word, *count), "a crash");
     }
 }

@@ -16,12 +16,12 @@ use group_commit::Desk;
 use intake::{Editor, SubmitRefused, open_intake};
 use new_devices::NoDevices;
 use packet_ways::BoardName;
-use service_threads::{Rebuilds, Site, begun, commit_beside};
+use service_threads::{Rebuilds, Setting, Site, begun, commit_beside};
 use service_workers::{Coordinator, Gate, StopCause, WordSource};
 use settled_lists::Builds;
 use stand_ins::{BeforeSync, HookedDisk, comes};
 use std::alloc::{AllocError, Global};
-use std::marker::Brand;
+use std::marker::{Brand, PhantomData};
 use std::process::Abort;
 use std::sync::atomic::{AtomicBool, AtomicU64, Ordering};
 use std::sync::{Arc, Mutex, Wait};
@@ -122,9 +122,22 @@ fn begins<J: BoardName, R: Wait + Abort>(
 /// A committer over a device that feeds it.
 type Fed<R> = Committer<HookedDisk<Arc<Feed<R>, Global>>, R>;
 
+/// The types by which a burst is committed.
+struct Paced<R> {
+    of: PhantomData<R>,
+}
+
+impl<R: Threads + Wait + Sync> Setting for Paced<R> {
+    type Runtime = R;
+
+    type Gate = Signs;
+
+    type Devices = NoDevices;
+}
+
 // Commits the burst, with builds beside it, and gives the committer back.
-fn commits<J: BoardName + Send + Sync, R: Threads + Wait + Abort + Copy + Drop + Sync>(
-    site: &Site<J, Signs, R>,
+fn commits<'a, J: BoardName + Send + Sync, R: Threads + Wait + Abort + Copy + Drop + Sync>(
+    site: &'a Site<'a, J, Paced<R>>,
     committer: Fed<R>,
     rebuilds: Rebuilds,
     editors: [Editor; 2],
@@ -176,7 +189,7 @@ fn commits_by<J: BoardName + Send + Sync, R: Threads + Wait + Abort + Copy + Dro
     let mut rebuilds = rebuilds.ok().expect(rt, "memory");
     match begun::<J, _, R, R>(rt, alloc, &mut committer, &mut rebuilds, 1) {
         Ok(coordinator) => {
-            let site = Site {
+            let site: Site<J, Paced<R>> = Site {
                 rt,
                 alloc,
                 coordinator: &coordinator,

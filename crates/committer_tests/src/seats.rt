@@ -23,6 +23,19 @@ use std::fmt::Debug;
 use std::process::Abort;
 use std::sync::{Arc, Wait};
 
+// The value of an answer that has to have one.
+pub(crate) fn got<T, E: Drop>(rt: &impl Abort, answer: Result<T, E>) -> T {
+    match answer {
+        Ok(value) => value,
+        Err(_) => panic!(rt; "no value"),
+    }
+}
+
+// Sees that two values are the same.
+pub(crate) fn same<T: Copy + PartialEq + Debug>(rt: &impl Abort, found: T, want: T, name: &str) {
+    assert_eq!(rt; found, want, "{name}");
+}
+
 // Words that make node 2 a landmark, and node 3.
 pub(crate) const AT_TWO: [u64; 5] = [u64::MAX, u64::MAX, 0, u64::MAX, u64::MAX];
 
@@ -34,19 +47,6 @@ pub(crate) const PATH: [Op; 4] = [
     Op::Add(2, 3, 1),
     Op::Add(3, 4, 1),
 ];
-
-/// The value of an answer that has to have one.
-pub(crate) fn got<T, E: Drop>(rt: &impl Abort, answer: Result<T, E>) -> T {
-    match answer {
-        Ok(value) => value,
-        Err(_) => panic!(rt; "no value"),
-    }
-}
-
-/// Sees that two values are the same.
-pub(crate) fn same<T: Copy + PartialEq + Debug>(rt: &impl Abort, found: T, want: T, name: &str) {
-    assert_eq!(rt; found, want, "{name}");
-}
 
 /// A desk over a disk.
 pub(crate) fn opened(rt: &impl Abort, alloc: Global, disk: MemDisk) -> Desk<MemDisk>
@@ -152,12 +152,8 @@ pub(crate) fn comes_back<R: Wait + Abort>(
     let answer = editor.submit(rt, ticket, change(rt, ops));
     let (refused, back) = answer.err().expect(rt, "refused");
     same(rt, refused, why, "why it is refused");
-    same(
-        rt,
-        back == change(rt, ops),
-        true,
-        "the change that comes back",
-    );
+    let found = back == change(rt, ops);
+    same(rt, found, true, "the change that comes back");
 }
 
 /// A round.

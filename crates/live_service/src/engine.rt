@@ -18,8 +18,9 @@ ghost use Rattle.line_workers.specs.Submits.{AreAllEditors, ComesBack, HasNoted}
 ghost use Rattle.live_service.specs.Noting.{AreJoined};
 ghost use Rattle.live_service.specs.Taken.{TakesNoMore};
 
+use crate::around::Around;
 use crate::ending::{Ending, Joined};
-use crate::opened::{EngineParts, Opened, Places};
+use crate::opened::{EngineParts, Opened, Places, PlacesOf};
 use checkpoint::Store;
 use committer::Committer;
 use disk_trait::Disk;
@@ -28,7 +29,6 @@ use group_commit::Desk;
 use intake::{Editor, Taker, open_intake};
 use line_exchange::{Exchange, Noted, Stream};
 use line_workers::{TablesReader, Workplace, edit_lines, forward_lines, table_lines, wait_lines};
-use new_devices::NewDevices;
 use packet_ways::BoardName;
 use put_lines::PutLines;
 use requests::SESSIONS;
@@ -295,23 +295,13 @@ fn ended(
 }
 
 // Commits what editors submit, makes the backups that are asked for, and builds tables in turn with that or beside it, as the input has it.
-fn commit_lines<
-    's,
-    E,
-    J: Stream,
-    B: BoardName + Send + Sync,
-    D: Disk,
-    G: Gate + Sync,
-    F: NewDevices,
-    Q: Wait + Drop,
-    R: Threads + Wait + Sync,
->(
+fn commit_lines<'s, E, J: Stream, B: BoardName + Send + Sync, A: Around, Q: Wait + Drop>(
     scope: &Scope<'s, E>,
-    here: &'s Workplace<'s, J, B, R>,
-    gate: &'s G,
-    committer: &mut Committer<D, Q>,
+    here: &'s Workplace<'s, J, B, A::Runtime>,
+    gate: &'s A::Gate,
+    committer: &mut Committer<A::Device, Q>,
     rebuilds: &mut Rebuilds,
-    devices: &mut F,
+    devices: &mut A::Devices,
 ) -> Result<bool, StopCause>
     requires opening { (posts_of committer.old).opening ≡ B.opening }
     requires fresh { IsFresh committer.old }
@@ -329,7 +319,7 @@ fn commit_lines<
     let (rt, alloc) = (here.rt, here.alloc);
     match rebuilds.builds {
         Builds::InTurn => {
-            return commit_all::<B, D, Q, F, R>(
+            return commit_all::<B, A::Device, Q, A::Devices, A::Runtime>(
                 rt,
                 alloc,
                 here.coordinator,
@@ -340,7 +330,7 @@ fn commit_lines<
         }
         Builds::Beside => {}
     }
-    let site = Site {
+    let site: Site<'s, B, A> = Site {
         rt,
         alloc,
         coordinator: here.coordinator,
@@ -350,23 +340,13 @@ fn commit_lines<
 }
 
 // Runs the threads of all seats, the committer in the caller's, and gives the store back.
-fn run_seats<
-    'a,
-    J: Stream + Send + Sync,
-    B: BoardName + Send + Sync,
-    D: Disk + Drop,
-    G: Gate + Sync,
-    T: TableFiles + Drop + Send,
-    F: NewDevices + Drop,
-    Q: Wait + Drop,
-    R: Threads + Wait + Sync,
->(
-    here: &'a Workplace<'a, J, B, R>,
-    gate: &'a G,
-    committer: Committer<D, Q>,
-    seats: Seats<B, Places<T, F>>,
+fn run_seats<'a, J: Stream + Send + Sync, B: BoardName + Send + Sync, A: Around, Q: Wait + Drop>(
+    here: &'a Workplace<'a, J, B, A::Runtime>,
+    gate: &'a A::Gate,
+    committer: Committer<A::Device, Q>,
+    seats: Seats<B, PlacesOf<A>>,
     rebuilds: Rebuilds,
-) -> (Result<Ending, StopCause>, Store<D>)
+) -> (Result<Ending, StopCause>, Store<A::Device>)
     requires opening { (posts_of committer).opening ≡ B.opening }
     requires fresh { IsFresh committer }
     requires listed { IsListedFrom (builds_of J.input) (state_of (store_of committer)) committer }
@@ -378,7 +358,7 @@ fn run_seats<
     thread::scope(
         thread::scope_env(),
         here.rt,
-        |scope| -> (Result<Ending, StopCause>, Store<D>)
+        |scope| -> (Result<Ending, StopCause>, Store<A::Device>)
             requires opening { (posts_of committer).opening ≡ B.opening }
             requires fresh { IsFresh committer }
             requires listed { IsListedFrom (builds_of J.input) (state_of (store_of committer)) committer }
@@ -410,7 +390,7 @@ fn run_seats<
             start_forwarders(scope, here, gate, forwarders, &mut handles);
             start_tables(scope, here, tables, reader, &mut handles);
             let waiter = start_waiter(scope, here);
-            let own = commit_lines(
+            let own = commit_lines::<_, J, B, A, Q>(
                 scope,
                 here,
                 gate,
@@ -443,24 +423,15 @@ fn run_seats<
 }
 
 // Runs the threads of all seats, the committer in the caller's, and gives the store back. A script's first generation is built before.
-fn run<
-    J: Stream + Send + Sync,
-    B: BoardName + Send + Sync,
-    D: Disk + Drop,
-    G: Gate + Sync,
-    T: TableFiles + Drop + Send,
-    F: NewDevices + Drop,
-    Q: Wait + Drop,
-    R: Threads + Wait + Sync,
->(
-    rt: &R,
+fn run<J: Stream + Send + Sync, B: BoardName + Send + Sync, A: Around, Q: Wait + Drop>(
+    rt: &A::Runtime,
     alloc: Global,
-    committer: Committer<D, Q>,
-    seats: Seats<B, Places<T, F>>,
+    committer: Committer<A::Device, Q>,
+    seats: Seats<B, PlacesOf<A>>,
     rebuilds: Rebuilds,
-    gate: &G,
+    gate: &A::Gate,
     exchange: &Exchange<J, B>,
-) -> (Result<Ending, StopCause>, Store<D>)
+) -> (Result<Ending, StopCause>, Store<A::Device>)
     requires opening { (posts_of committer).opening ≡ B.opening }
     requires fresh { IsFresh committer }
     requires listed { IsListedFrom (builds_of J.input) (state_of (store_of committer)) committer }
@@ -473,7 +444,7 @@ fn run<
     let mut rebuilds = rebuilds;
     // The waiter is one more: while it may ask for a backup, the committer goes on.
     let editing = seats.editors.len().saturating_add(1);
-    match begun::<B, D, Q, R>(rt, alloc, &mut committer, &mut rebuilds, editing) {
+    match begun::<B, A::Device, Q, A::Runtime>(rt, alloc, &mut committer, &mut rebuilds, editing) {
         Ok(coordinator) => {
             let here = Workplace {
                 rt,
@@ -481,7 +452,7 @@ fn run<
                 coordinator: &coordinator,
                 exchange,
             };
-            run_seats::<J, B, D, G, T, F, Q, R>(&here, gate, committer, seats, rebuilds)
+            run_seats::<J, B, A, Q>(&here, gate, committer, seats, rebuilds)
         }
         Err(cause) => (Err(cause), committer.into_store()),
     }
@@ -567,22 +538,13 @@ fn seat_all<B: BoardName, P: Drop>(
 }
 
 // Seats editors and forwarders at the board that `B` names, and runs them.
-fn seat<
-    J: Stream + Send + Sync,
-    B: BoardName + Send + Sync,
-    D: Disk + Drop,
-    G: Gate + Sync,
-    T: TableFiles + Drop + Send,
-    F: NewDevices + Drop,
-    Q: Wait + Drop,
-    R: Threads + Wait + Sync,
->(
-    rt: &R,
+fn seat<J: Stream + Send + Sync, B: BoardName + Send + Sync, A: Around, Q: Wait + Drop>(
+    rt: &A::Runtime,
     alloc: Global,
-    parts: EngineParts<B, D, Places<T, F>, Q>,
-    gate: &G,
+    parts: EngineParts<B, A::Device, PlacesOf<A>, Q>,
+    gate: &A::Gate,
     exchange: &Exchange<J, B>,
-) -> (Result<Ending, StopCause>, Store<D>)
+) -> (Result<Ending, StopCause>, Store<A::Device>)
     requires builds { parts.opened.config.builds ≡ builds_of J.input }
     ensures { EndsServed B.opening J.book parts.opened.store J.input J.editors result.0 (view_of result.1) }
 {
@@ -601,10 +563,10 @@ fn seat<
     let Ok(rebuilds) = Rebuilds::new(alloc, source, config.rounds, config.builds) else {
         return (Err(StopCause::Memory), store);
     };
-    match seat_all::<B, Places<T, F>>(alloc, config.service, places, readers, &store.starts()) {
+    match seat_all::<B, PlacesOf<A>>(alloc, config.service, places, readers, &store.starts()) {
         Ok((taker, seats)) => {
             let committer = Committer::new(Desk::new(store), taker, writer);
-            run::<J, B, D, G, T, F, Q, R>(rt, alloc, committer, seats, rebuilds, gate, exchange)
+            run::<J, B, A, Q>(rt, alloc, committer, seats, rebuilds, gate, exchange)
         }
         Err(_) => (Err(StopCause::Memory), store),
     }
@@ -612,26 +574,17 @@ fn seat<
 
 /// Answers the lines that come to the exchange, until no more come or all stop, in the thread that calls and others. Then no answer
 /// comes any more. The disk comes back, and what was posted on the board that `B` names.
-pub fn engine<
-    J: Stream + Send + Sync,
-    B: BoardName + Send + Sync,
-    D: Disk + Drop,
-    G: Gate + Sync,
-    T: TableFiles + Drop + Send,
-    F: NewDevices + Drop,
-    Q: Wait + Drop,
-    R: Threads + Wait + Sync,
->(
-    rt: &R,
+pub fn engine<J: Stream + Send + Sync, B: BoardName + Send + Sync, A: Around, Q: Wait + Drop>(
+    rt: &A::Runtime,
     alloc: Global,
-    parts: EngineParts<B, D, Places<T, F>, Q>,
-    gate: &G,
+    parts: EngineParts<B, A::Device, PlacesOf<A>, Q>,
+    gate: &A::Gate,
     exchange: &Exchange<J, B>,
-) -> (Result<Ending, StopCause>, D)
+) -> (Result<Ending, StopCause>, A::Device)
     requires builds { parts.opened.config.builds ≡ builds_of J.input }
-    ensures { EndsServed B.opening J.book parts.opened.store J.input J.editors result.0 (D.view result.1) }
+    ensures { EndsServed B.opening J.book parts.opened.store J.input J.editors result.0 (A.Device.view result.1) }
 {
-    let (result, store) = seat::<J, B, D, G, T, F, Q, R>(rt, alloc, parts, gate, exchange);
+    let (result, store) = seat::<J, B, A, Q>(rt, alloc, parts, gate, exchange);
     exchange.shut(rt);
     exchange.end(rt);
     (result, store.into_disk())

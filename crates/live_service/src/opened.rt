@@ -4,16 +4,20 @@ ghost use Rattle.checkpoint.specs.StoreWords.{is_down, state_of};
 ghost use Rattle.live_service.specs.Seated.{IsSeated};
 ghost use Rattle.live_service.specs.ServedList.{IsBoardOf};
 
+use crate::around::{Around, Kinds};
 use checkpoint::Store;
 use disk_trait::Disk;
 use generations::{BoardReader, BoardWriter};
+use new_devices::NewDevices;
 use packet_ways::BoardName;
-use service_threads::ServiceConfig;
-use service_workers::WordSource;
+use service_threads::{ServiceConfig, Setting};
+use service_workers::{Gate, WordSource};
 use settled_lists::Builds;
 use std::alloc::Global;
 use std::marker::PhantomData;
 use std::sync::Wait;
+use std::thread::Threads;
+use table_files::TableFiles;
 use written_values::LandmarkWords;
 
 /// What the engine works by.
@@ -55,11 +59,31 @@ pub struct Places<T, F> {
     pub devices: F,
 }
 
+/// The places of a service by these types.
+pub(crate) type PlacesOf<A> = Places<<A as Around>::Tables, <A as Setting>::Devices>;
+
 /// What a live service has around it: what may hold it up, and its places.
 #[derive(Drop)]
-pub struct Surroundings<'a, G, T, F> {
-    pub gate: &'a G,
-    pub places: Places<T, F>,
+pub struct Surroundings<'a, A: Around> {
+    pub gate: &'a A::Gate,
+    pub places: PlacesOf<A>,
+}
+
+impl<'a, D, R, G, T, F> Surroundings<'a, Kinds<D, &'a R, &'a G, T, F>>
+where
+    D: Disk + Drop + Send,
+    R: Threads + Wait + Sync,
+    G: Gate + Sync,
+    T: TableFiles + Drop + Send,
+    F: NewDevices + Drop + Send,
+{
+    /// This gate and these places. The device and the runtime are those of the call that takes them.
+    pub fn new(
+        gate: &'a G,
+        places: Places<T, F>,
+    ) -> Surroundings<'a, Kinds<D, &'a R, &'a G, T, F>> {
+        Surroundings { gate, places }
+    }
 }
 
 /// The store of a device that was opened, and what its service works by.

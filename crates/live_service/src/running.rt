@@ -13,18 +13,18 @@ ghost use Rattle.live_service.specs.Seated.{IsSeated};
 ghost use Rattle.live_service.specs.Noting.{AreSamePuts};
 ghost use Rattle.live_service.specs.ServedList.{EndsServed, IsBoardOf, builds_of};
 
+use crate::around::Around;
+use crate::client::Client;
 use crate::ending::Ending;
 use crate::engine::engine;
-use crate::opened::{EngineParts, Opened, Places};
+use crate::opened::{EngineParts, Env, Opened, Places, PlacesOf};
 use checkpoint::Store;
 use command_output::Fault;
 use disk_trait::Disk;
-use line_exchange::{
-    Console, Exchange, LineFault, LineSource, Printed, Served, Stream, read_lines,
-};
+use line_exchange::{Console, Exchange, LineFault, Printed, Served, Stream, read_lines};
 use new_devices::NewDevices;
 use packet_ways::BoardName;
-use service_workers::{Gate, StopCause};
+use service_workers::StopCause;
 use std::alloc::Global;
 use std::marker::PhantomData;
 use std::snapshot::Snapshot;
@@ -32,7 +32,6 @@ use std::sync::Wait;
 use std::sync::atomic::{AtomicBool, Ordering};
 use std::thread;
 use std::thread::{Promise, PromisedHandle, Scope, Threads};
-use table_files::TableFiles;
 
 // What the engine's thread answers of the disk that the store was on, of its input, and of the board that `B` names.
 #[derive(Drop)]
@@ -174,6 +173,9 @@ fn conclude<J: Stream, C: Console<J>, R: Threads>(
     }
 }
 
+// The thread of an engine.
+type Started<J, B, D> = PromisedHandle<(Result<Ending, StopCause>, D), EnginePromise<J, B, D>>;
+
 // Starts the engine in a thread of its own. Where none can be made the disk comes back: then `unmade` is set, and the engine's own
 // closure hands the disk out instead.
 fn start_engine<
@@ -181,29 +183,25 @@ fn start_engine<
     E,
     J: Stream + Send + Sync,
     B: BoardName + Send + Sync,
-    D: Disk + Drop + Send + 's,
-    G: Gate + Sync,
-    T: TableFiles + Drop + Send + 's,
-    F: NewDevices + Drop + Send + 's,
+    A: Around + Send + 's,
     Q: Wait + Drop + Send + 's,
-    R: Threads + Wait + Sync,
 >(
     scope: &Scope<'s, E>,
-    rt: &'s R,
+    rt: &'s A::Runtime,
     alloc: Global,
-    parts: EngineParts<B, D, Places<T, F>, Q>,
-    gate: &'s G,
+    parts: EngineParts<B, A::Device, PlacesOf<A>, Q>,
+    gate: &'s A::Gate,
     exchange: &'s Exchange<J, B>,
     unmade: &'s AtomicBool,
-) -> Result<PromisedHandle<(Result<Ending, StopCause>, D), EnginePromise<J, B, D>>, D>
+) -> Result<Started<J, B, A::Device>, A::Device>
 where
-    F::Device: Send,
+    <A::Devices as NewDevices>::Device: Send,
     requires builds { parts.opened.config.builds ≡ builds_of J.input }
     ensures made { IfOk result (λ handle. handle.promise.store.value ≡ parts.opened.store) }
     ensures unmade { IfErr result (λ disk.
-        HasSettledSome (state_of parts.opened.store) (view_of parts.opened.store) (D.view disk)) }
+        HasSettledSome (state_of parts.opened.store) (view_of parts.opened.store) (A.Device.view disk)) }
 {
-    let promise: EnginePromise<J, B, D> = EnginePromise {
+    let promise: EnginePromise<J, B, A::Device> = EnginePromise {
         store: Snapshot::of(&parts.opened.store),
         of: PhantomData,
         at: PhantomData,
@@ -222,12 +220,12 @@ where
         places,
     } = opened;
     let Places { tables, devices } = places;
-    let job = move || -> (Result<Ending, StopCause>, D)
+    let job = move || -> (Result<Ending, StopCause>, A::Device)
         requires config { IsSeated config.service }
         requires builds { config.builds ≡ builds_of J.input }
         requires board { IsBoardOf B.opening (state_of store) writer readers.items }
         requires up { is_down store ≡ false }
-        ensures { EndsServed B.opening J.book store J.input J.editors result.0 (D.view result.1) }
+        ensures { EndsServed B.opening J.book store J.input J.editors result.0 (A.Device.view result.1) }
     {
         if unmade.load(Ordering::SeqCst) {
             return (Err(StopCause::NoThread), store.into_disk());
@@ -244,7 +242,7 @@ where
             readers,
             of: PhantomData,
         };
-        engine(rt, alloc, parts, gate, exchange)
+        engine::<J, B, A, Q>(rt, alloc, parts, gate, exchange)
     };
     match scope.spawn_with(promise, job) {
         Ok(handle) => Ok(handle),
@@ -261,41 +259,39 @@ pub(crate) fn run_threads<
     'a,
     J: Stream + Send + Sync,
     B: BoardName + Send + Sync,
-    D: Disk + Drop + Send,
-    G: Gate + Sync,
-    T: TableFiles + Drop + Send,
-    F: NewDevices + Drop + Send,
+    A: Around + Send,
     Q: Wait + Drop + Send,
-    R: Threads + Wait + Sync,
-    L: LineSource<J> + Send + Drop,
-    C: Console<J> + Drop,
+    K: Client<J>,
 >(
-    rt: &'a R,
-    alloc: Global,
-    parts: EngineParts<B, D, Places<T, F>, Q>,
-    gate: &'a G,
+    env: Env<'a, A::Runtime>,
+    parts: EngineParts<B, A::Device, PlacesOf<A>, Q>,
+    gate: &'a A::Gate,
     exchange: &'a Exchange<J, B>,
-    lines: L,
-    console: C,
-) -> (C, Served, Option<D>)
+    lines: K::Lines,
+    console: K::Console,
+) -> (K::Console, Served, Option<A::Device>)
 where
-    F::Device: Send,
-    requires given { L.has_given lines 0 }
+    <A::Devices as NewDevices>::Device: Send,
+    requires given { K.Lines.has_given lines 0 }
     requires builds { parts.opened.config.builds ≡ builds_of J.input }
-    ensures { HasRun C.prints C.finishes J.input J.editors parts.opened.store console result.0 result.1 result.2 }
+    ensures { HasRun K.Console.prints K.Console.finishes J.input J.editors parts.opened.store
+        console result.0 result.1 result.2 }
 {
+    let Env { rt, alloc } = env;
     let unmade = AtomicBool::new(false);
     let unmade = &unmade;
     thread::scope(
         thread::scope_env(),
         rt,
-        |scope| -> (C, Served, Option<D>)
-            requires given { L.has_given lines 0 }
+        |scope| -> (K::Console, Served, Option<A::Device>)
+            requires given { K.Lines.has_given lines 0 }
             requires builds { parts.opened.config.builds ≡ builds_of J.input }
-            ensures { HasRun C.prints C.finishes J.input J.editors parts.opened.store
+            ensures { HasRun K.Console.prints K.Console.finishes J.input J.editors parts.opened.store
                 console result.0 result.1 result.2 }
         {
-            let engine = match start_engine(scope, rt, alloc, parts, gate, exchange, unmade) {
+            let engine = match start_engine::<_, J, B, A, Q>(
+                scope, rt, alloc, parts, gate, exchange, unmade,
+            ) {
                 Ok(engine) => engine,
                 Err(disk) => {
                     let (console, served) = console.finish(Some(Fault::NoThread));
@@ -304,7 +300,7 @@ where
             };
             let reader_promise: ReaderPromise<J> = ReaderPromise { of: PhantomData };
             let reader_job = move || -> Result<Option<u64>, LineFault>
-                requires given { L.has_given lines 0 }
+                requires given { K.Lines.has_given lines 0 }
                 ensures { IsReadEnd J.input result }
             { read_lines(rt, exchange, lines) };
             let reader = match scope.spawn_with(reader_promise, reader_job) {
@@ -316,7 +312,9 @@ where
             };
             let (console, printed) = console.print(rt, exchange);
             let (ended, disk) = engine.join(rt);
-            let (console, _, served) = conclude::<J, C, R>(rt, console, printed, &ended, reader);
+            let (console, _, served) = conclude::<J, K::Console, A::Runtime>(
+                rt, console, printed, &ended, reader,
+            );
             (console, served, Some(disk))
         },
     )

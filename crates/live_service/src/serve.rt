@@ -12,40 +12,32 @@ ghost use Rattle.live_lines.specs.Answers.{answer_text};
 ghost use Rattle.live_service.specs.ServedList.{HasPrintedOn};
 ghost use Rattle.live_service.specs.Services.{AnswersInput};
 
-use crate::opened::{EngineConfig, Env, LiveInput, Opened, Places, ServedDevice, Surroundings};
+use crate::around::Around;
+use crate::opened::{EngineConfig, Env, LiveInput, Opened, PlacesOf, ServedDevice, Surroundings};
 use crate::opening::open_device;
 use crate::serving::{seated, serve_opened, take_back};
 use checkpoint::standing_law;
 use command_output::FaultWriter;
-use disk_trait::Disk;
 use line_exchange::{AnswerWriter, InputSource, Served, Stream, Terminal, told};
 use new_devices::NewDevices;
 use put_lines::BlankBook;
-use service_workers::Gate;
 use settled_lists::Builds;
 use std::io::BufRead;
 use std::marker::Brand;
-use std::sync::Wait;
-use std::thread::Threads;
-use table_files::TableFiles;
 
 // The service of a device that was opened, for the input that `J` names and with a book of its own.
-fn serve_stream<'a, J, D, G, T, F, R, S, O, E>(
-    env: Env<'a, R>,
-    opened: Opened<D, Places<T, F>>,
-    gate: &'a G,
+fn serve_stream<'a, J, A, S, O, E>(
+    env: Env<'a, A::Runtime>,
+    opened: Opened<A::Device, PlacesOf<A>>,
+    gate: &'a A::Gate,
     input: (S, BlankBook),
     out: &mut O,
     err: &mut E,
-) -> (Served, Option<D>)
+) -> (Served, Option<A::Device>)
 where
     J: Stream + Send + Sync,
-    D: Disk + Drop + Send,
-    G: Gate + Sync,
-    T: TableFiles + Drop + Send,
-    F: NewDevices + Drop + Send,
-    F::Device: Send,
-    R: Threads + Wait + Sync,
+    A: Around + Send,
+    <A::Devices as NewDevices>::Device: Send,
     S: BufRead + Send + Drop,
     O: AnswerWriter,
     E: FaultWriter,
@@ -63,7 +55,7 @@ where
     let alloc = env.alloc;
     let lines = InputSource::new(alloc, opened.config.service.editors, input);
     let terminal = Terminal { alloc, out, err };
-    let (terminal, served, disk) = serve_opened::<J, D, G, T, F, R, InputSource<S>, Terminal<O, E>>(
+    let (terminal, served, disk) = serve_opened::<J, A, InputSource<S>, Terminal<O, E>>(
         env, opened, gate, lines, blank, terminal,
     );
     let Terminal { alloc: _, out, err } = terminal;
@@ -84,21 +76,17 @@ where
 /// What ends the service before the input's end is told on `err`, once all answers before the first line without one are printed.
 /// [`Served::Printed`]: the input came to its end, and all its lines are answered. What was accepted stays on the device, which comes
 /// back whatever ends the service.
-pub fn serve_live<'a, D, G, T, F, R, S, O, E>(
-    env: Env<'a, R>,
-    device: ServedDevice<D>,
+pub fn serve_live<'a, A, S, O, E>(
+    env: Env<'a, A::Runtime>,
+    device: ServedDevice<A::Device>,
     input: LiveInput<S>,
-    around: Surroundings<'a, G, T, F>,
+    around: Surroundings<'a, A>,
     out: &mut O,
     err: &mut E,
-) -> (Served, Option<D>)
+) -> (Served, Option<A::Device>)
 where
-    D: Disk + Drop + Send,
-    G: Gate + Sync,
-    T: TableFiles + Drop + Send,
-    F: NewDevices + Drop + Send,
-    F::Device: Send,
-    R: Threads + Wait + Sync,
+    A: Around + Send,
+    <A::Devices as NewDevices>::Device: Send,
     S: BufRead + Send + Drop,
     O: AnswerWriter,
     E: FaultWriter,
@@ -110,14 +98,14 @@ where
     // A fault that wasn't told couldn't be: a write of this writer has failed.
     ensures untold { (fault : Fault) → result.0 ≡ Served.Untold fault → IsTrue (E.has_failed err.new) }
     // A fault is true of the device.
-    ensures ended { IfSome (fault_of result.0) (λ fault. IsServeEnd D.Disk device.disk device.words result.1 fault) }
+    ensures ended { IfSome (fault_of result.0) (λ fault. IsServeEnd A.Device.Disk device.disk device.words result.1 fault) }
     // The device comes back, whatever ended it.
     ensures back { IsSome result.1 }
     // It is the very device: a crash at any moment leaves the state after a beginning of the requests that were taken.
-    ensures left { IsLeftBy D.Disk device.disk result.1 }
+    ensures left { IsLeftBy A.Device.Disk device.disk result.1 }
     // Where no fault ended it, the device came back, and the answers are of one list of requests.
     ensures one_list { result.0 ≡ Served.Printed
-        → AnswersInput D.Disk device.disk result.1 (Bytes (S.remaining input.lines)) device.config.editors
+        → AnswersInput A.Device.Disk device.disk result.1 (Bytes (S.remaining input.lines)) device.config.editors
         O.contents out.old out.new }
 {
     let ServedDevice {
@@ -143,5 +131,5 @@ where
         places,
     };
     let input = (lines, BlankBook::new());
-    serve_stream::<Brand, D, G, T, F, R, S, O, E>(env, opened, gate, input, out, err)
+    serve_stream::<Brand, A, S, O, E>(env, opened, gate, input, out, err)
 }

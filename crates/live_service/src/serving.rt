@@ -6,7 +6,9 @@ ghost use Rattle.live_service.specs.Runs.{HasRun};
 ghost use Rattle.live_service.specs.Seated.{IsSeated};
 ghost use Rattle.live_service.specs.ServedList.{IsBoardOf, builds_of};
 
-use crate::opened::{EngineConfig, EngineParts, Env, Opened, Places};
+use crate::around::Around;
+use crate::client::{Client, Ends};
+use crate::opened::{EngineConfig, EngineParts, Env, Opened, PlacesOf};
 use crate::running::run_threads;
 use checkpoint::Store;
 use command_output::Fault;
@@ -17,12 +19,9 @@ use new_devices::NewDevices;
 use packet_ways::BoardName;
 use put_lines::BlankBook;
 use service_threads::ServiceConfig;
-use service_workers::Gate;
 use std::alloc::{AllocError, Global};
 use std::marker::{Brand, PhantomData};
 use std::sync::Wait;
-use std::thread::Threads;
-use table_files::TableFiles;
 
 /// Does nothing, but by this use of a reference that came back the caller knows what it left.
 pub fn take_back<T>(x: &mut T)
@@ -78,33 +77,31 @@ fn unstarted<J: Stream, D: Disk + Drop, P: Drop, C: Console<J>>(
 }
 
 // The service at the board that `B` names, whose editors note lines in the book that `J` names.
-fn serve_at_board<'a, J, B, D, G, T, F, Q, R, L, C>(
-    env: Env<'a, R>,
-    opened: Opened<D, Places<T, F>>,
-    board: (BoardWriter<Q>, Vec<BoardReader>, BlankBook),
-    gate: &'a G,
-    lines: L,
-    console: C,
-) -> (C, Served, Option<D>)
-where
+fn serve_at_board<
+    'a,
     J: Stream + Send + Sync,
     B: BoardName + Send + Sync,
-    D: Disk + Drop + Send,
-    G: Gate + Sync,
-    T: TableFiles + Drop + Send,
-    F: NewDevices + Drop + Send,
-    F::Device: Send,
+    A: Around + Send,
     Q: Wait + Drop + Send,
-    R: Threads + Wait + Sync,
-    L: LineSource<J> + Send + Drop,
-    C: Console<J> + Drop,
+    K: Client<J>,
+>(
+    env: Env<'a, A::Runtime>,
+    opened: Opened<A::Device, PlacesOf<A>>,
+    board: (BoardWriter<Q>, Vec<BoardReader>, BlankBook),
+    gate: &'a A::Gate,
+    lines: K::Lines,
+    console: K::Console,
+) -> (K::Console, Served, Option<A::Device>)
+where
+    <A::Devices as NewDevices>::Device: Send,
     requires board { IsBoardOf B.opening (state_of opened.store) board.0 board.1.items }
     requires blank { board.2.book ≡ J.book }
-    requires given { L.has_given lines 0 }
+    requires given { K.Lines.has_given lines 0 }
     requires builds { opened.config.builds ≡ builds_of J.input }
-    ensures { HasRun C.prints C.finishes J.input J.editors opened.store console result.0 result.1 result.2 }
+    ensures { HasRun K.Console.prints K.Console.finishes J.input J.editors opened.store
+        console result.0 result.1 result.2 }
 {
-    let Env { rt, alloc } = env;
+    let alloc = env.alloc;
     let (writer, readers, blank) = board;
     let service = opened.config.service;
     let known = writer.tell().history();
@@ -124,30 +121,26 @@ where
                 readers,
                 of: PhantomData,
             };
-            run_threads(rt, alloc, parts, gate, &exchange, lines, console)
+            run_threads::<J, B, A, Q, K>(env, parts, gate, &exchange, lines, console)
         }
-        Err(_) => unstarted::<J, D, Places<T, F>, C>(opened, console),
+        Err(_) => unstarted::<J, A::Device, PlacesOf<A>, K::Console>(opened, console),
     }
 }
 
 /// The service of a device that was opened, for the lines that `J` names: all threads, from these lines to this console. Editors note in
 /// the book that `J` names which lines put requests. The disk comes back.
-pub fn serve_opened<'a, J, D, G, T, F, R, L, C>(
-    env: Env<'a, R>,
-    opened: Opened<D, Places<T, F>>,
-    gate: &'a G,
+pub fn serve_opened<'a, J, A, L, C>(
+    env: Env<'a, A::Runtime>,
+    opened: Opened<A::Device, PlacesOf<A>>,
+    gate: &'a A::Gate,
     lines: L,
     blank: BlankBook,
     console: C,
-) -> (C, Served, Option<D>)
+) -> (C, Served, Option<A::Device>)
 where
     J: Stream + Send + Sync,
-    D: Disk + Drop + Send,
-    G: Gate + Sync,
-    T: TableFiles + Drop + Send,
-    F: NewDevices + Drop + Send,
-    F::Device: Send,
-    R: Threads + Wait + Sync,
+    A: Around + Send,
+    <A::Devices as NewDevices>::Device: Send,
     L: LineSource<J> + Send + Drop,
     C: Console<J> + Drop,
     requires given { L.has_given lines 0 }
@@ -156,7 +149,7 @@ where
     ensures { HasRun C.prints C.finishes J.input J.editors opened.store console result.0 result.1 result.2 }
 {
     match board_of(env.rt, env.alloc, &opened.config, &opened.store) {
-        Ok((writer, readers)) => serve_at_board::<J, Brand, D, G, T, F, &R, R, L, C>(
+        Ok((writer, readers)) => serve_at_board::<J, Brand, A, &A::Runtime, Ends<L, C>>(
             env,
             opened,
             (writer, readers, blank),
@@ -164,6 +157,6 @@ where
             lines,
             console,
         ),
-        Err(_) => unstarted::<J, D, Places<T, F>, C>(opened, console),
+        Err(_) => unstarted::<J, A::Device, PlacesOf<A>, C>(opened, console),
     }
 }

@@ -74,10 +74,8 @@ fn put_answer(rt: &impl Abort, text: &mut String, session: u64, answer: PlainAns
             got(rt, writeln!(text, "{session} {ticket} accepted count=?"))
         }
         PlainAnswer::Refused(ticket, op, code) => {
-            got(
-                rt,
-                writeln!(text, "{session} {ticket} refused op={op} code={code}"),
-            )
+            let answer = writeln!(text, "{session} {ticket} refused op={op} code={code}");
+            got(rt, answer)
         }
         PlainAnswer::AlreadyIn(ticket) => got(rt, writeln!(text, "{session} {ticket} already in")),
         PlainAnswer::OldTicket(ticket) => got(rt, writeln!(text, "{session} {ticket} old ticket")),
@@ -102,10 +100,8 @@ impl Drawn {
         };
         let ticket = plain.accepted;
         got(rt, writeln!(self.input, "resume {session}"));
-        got(
-            rt,
-            writeln!(self.answers, "session={session} ticket={ticket}"),
-        );
+        let put = writeln!(self.answers, "session={session} ticket={ticket}");
+        got(rt, put);
     }
 
     // One line of the others, whose answers don't hang on what was accepted.

@@ -73,15 +73,8 @@ where
         input: interrupter,
     };
     let disk = HookedDisk::new(fresh(&rt, alloc, 5), Refused(refused));
-    let (served, disk) = run(
-        Env { rt: &rt, alloc },
-        disk,
-        &SETUP,
-        input,
-        &OpenGate,
-        out,
-        &mut err,
-    );
+    let env = Env { rt: &rt, alloc };
+    let (served, disk) = run(env, disk, &SETUP, input, &OpenGate, out, &mut err);
     let (fault, told, count) = want;
     same(&rt, served, Served::Told(fault), "the end");
     same(&rt, text_of(&rt, &err.out), told, "what is told");

@@ -58,10 +58,8 @@ fn input_of(rt: &impl Abort, alloc: Global) -> String {
     for turn in 1..11u64 {
         for session in 0..8u64 {
             let op = if turn == 1 { "add" } else { "set" };
-            got(
-                rt,
-                writeln!(text, "edit {session} - {op}:{session}:8:{turn}"),
-            );
+            let put = writeln!(text, "edit {session} - {op}:{session}:8:{turn}");
+            got(rt, put);
         }
     }
     got(rt, text.push_str("wait\nroute 0 7\nresume 7"));
@@ -81,33 +79,20 @@ fn expect_answers(rt: &impl Abort, alloc: Global, printed: &str) {
     same(rt, lines.next(), Some("generation=80"), "all are in it");
     let route = lines.next().unwrap_or("");
     same(rt, route.starts_with("generation="), true, route);
-    same(
-        rt,
-        lines.next(),
-        Some("session=7 ticket=10"),
-        "the last ticket",
-    );
-    same(
-        rt,
-        (lines.next(), lines.next()),
-        (Some(""), None),
-        "the end",
-    );
+    let ticket = lines.next();
+    same(rt, ticket, Some("session=7 ticket=10"), "the last ticket");
+    let end = (lines.next(), lines.next());
+    same(rt, end, (Some(""), None), "the end");
 }
 
 #[test]
 fn edits_that_wait_at_the_end(rt: HostRuntime) {
     let alloc = rt.alloc();
-    let ended = got(
-        &rt,
-        Arc::new(
-            alloc,
-            Ended {
-                ends: AtomicU64::new(0),
-                late: AtomicU64::new(0),
-            },
-        ),
-    );
+    let ended = Ended {
+        ends: AtomicU64::new(0),
+        late: AtomicU64::new(0),
+    };
+    let ended = got(&rt, Arc::new(alloc, ended));
     let hook = got(&rt, Arc::try_clone(&ended));
     let disk = HookedDisk::new(fresh(&rt, alloc, 9), hook);
     let text = input_of(&rt, alloc);
@@ -117,41 +102,20 @@ fn edits_that_wait_at_the_end(rt: HostRuntime) {
     };
     let input = got(&rt, BufReader::with_capacity(alloc, 64, ending));
     let (mut out, mut err) = (Vec::new(alloc), Vec::new(alloc));
-    let (served, disk) = run(
-        Env { rt: &rt, alloc },
-        disk,
-        &SETUP,
-        input,
-        &OpenGate,
-        &mut out,
-        &mut err,
-    );
-    same(
-        &rt,
-        (served, text_of(&rt, &err)),
-        (Served::Printed, ""),
-        "the end",
-    );
-    same(
-        &rt,
-        ended.late.load(Ordering::SeqCst),
-        0,
-        "turns that ran out",
-    );
+    let env = Env { rt: &rt, alloc };
+    let (served, disk) = run(env, disk, &SETUP, input, &OpenGate, &mut out, &mut err);
+    let end = (served, text_of(&rt, &err));
+    same(&rt, end, (Served::Printed, ""), "the end");
+    let late = ended.late.load(Ordering::SeqCst);
+    same(&rt, late, 0, "turns that ran out");
     same(&rt, count_lines(&out), 83, "lines");
     expect_answers(&rt, alloc, text_of(&rt, &out));
     let store = reopened(&rt, alloc, got(&rt, disk.ok_or("no thread")));
-    same(
-        &rt,
-        (store.count(), store.graph().edges()),
-        (80, 8),
-        "what is left",
-    );
+    let graph = store.graph();
+    let found = (store.count(), graph.edges());
+    same(&rt, found, (80, 8), "what is left");
     for session in 0..8u8 {
-        let found = (
-            store.resume(session),
-            store.graph().weight(session as u16, 8),
-        );
+        let found = (store.resume(session), graph.weight(session as u16, 8));
         same(&rt, found, (10, Some(10)), "a session");
     }
 }

@@ -16,16 +16,16 @@ const SETUP: Setup = Setup {
 };
 
 const LINES: [Row<'static>; 10] = [
-    (b"nothing", "not understood"),
-    (b"resume 0", "session=0 ticket=0"),
-    (b"edit 0 - add:0:1:1", "0 1 accepted count=1"),
-    (b"route 9 9", "no node"),
-    (b"edit 0 - add:1:2:1", "0 2 accepted count=2"),
-    (b"edit 0 - add:1:2:1", "0 3 refused op=0 code=4"),
-    (b"edit 0 - add:2:3:1", "0 4 accepted count=3"),
-    (b"hop 1 00", "bad length"),
-    (b"edit 0 - add:3:4:1", "0 5 accepted count=4"),
-    (b"resume 0", "session=0 ticket=5"),
+    (b"nothing\n", "not understood\n"),
+    (b"resume 0\n", "session=0 ticket=0\n"),
+    (b"edit 0 - add:0:1:1\n", "0 1 accepted count=1\n"),
+    (b"route 9 9\n", "no node\n"),
+    (b"edit 0 - add:1:2:1\n", "0 2 accepted count=2\n"),
+    (b"edit 0 - add:1:2:1\n", "0 3 refused op=0 code=4\n"),
+    (b"edit 0 - add:2:3:1\n", "0 4 accepted count=3\n"),
+    (b"hop 1 00\n", "bad length\n"),
+    (b"edit 0 - add:3:4:1\n", "0 5 accepted count=4\n"),
+    (b"resume 0\n", "session=0 ticket=5\n"),
 ];
 
 // How many edits stand as accepted in a text.
@@ -38,12 +38,8 @@ fn accepted_in(text: &str) -> u64 {
 // Sees that a beginning of the path's edges is there, all that were accepted among them.
 fn holds_a_beginning(rt: &impl Abort, alloc: Global, disk: MemDisk, printed: &str) {
     let count = beginning_of(rt, alloc, disk, 4);
-    same(
-        rt,
-        accepted_in(printed) <= count && count <= 4,
-        true,
-        printed,
-    );
+    let found = accepted_in(printed) <= count && count <= 4;
+    same(rt, found, true, printed);
 }
 
 const FAILED: (Served, &str) = (Served::Told(Fault::Device), "tznode: device failed\n");
@@ -63,12 +59,11 @@ fn expect_failed(rt: &impl Abort, served: Served, printed: &str, told: &str, wan
     true
 }
 
-// The lines of the rows, each with its line feed.
+// The lines of the rows.
 fn input_of(rt: &impl Abort, alloc: Global, rows: &[Row<'_>]) -> Vec<u8> {
     let mut input = Vec::new(alloc);
     for (line, _) in rows {
         got(rt, input.extend_from_slice(line));
-        got(rt, input.push(b'\n'));
     }
     input
 }

@@ -179,10 +179,8 @@ fn answers_of(rt: &impl Abort, alloc: Global, row: &Row) -> String {
 // Runs on a device that holds the edit's commit, and sees all answers, of which just the first came before the edit's. Gives how many lines had
 // been read when the commit was let go.
 fn expect_row<R: Threads + Wait + Abort + Sync>(rt: &R, alloc: Global, row: &Row) -> u64 {
-    let signs = got(
-        rt,
-        Arc::new(alloc, Signs::new(row.least_hops, row.least_lines)),
-    );
+    let signs = Signs::new(row.least_hops, row.least_lines);
+    let signs = got(rt, Arc::new(alloc, signs));
     let hook = got(rt, Arc::try_clone(&signs));
     let disk = HookedDisk::new(fresh(rt, alloc, 5), hook);
     let lines = Lines {
@@ -199,31 +197,17 @@ fn expect_row<R: Threads + Wait + Abort + Sync>(rt: &R, alloc: Global, row: &Row
         signs: &signs,
     };
     let mut err = Vec::new(alloc);
-    let (served, _disk) = run(
-        Env { rt, alloc },
-        disk,
-        &SETUP,
-        input,
-        &gate,
-        &mut out,
-        &mut err,
-    );
+    let env = Env { rt, alloc };
+    let (served, _disk) = run(env, disk, &SETUP, input, &gate, &mut out, &mut err);
     let wanted = answers_of(rt, alloc, row);
-    same(
-        rt,
-        (served, text_of(rt, &err)),
-        (Served::Printed, ""),
-        "the end",
-    );
+    let end = (served, text_of(rt, &err));
+    same(rt, end, (Served::Printed, ""), "the end");
     same(rt, text_of(rt, &out.text), wanted.as_str(), "answers");
     let is_late = signs.is_late.load(Ordering::SeqCst);
     let printed = signs.printed_then.load(Ordering::SeqCst);
-    same(
-        rt,
-        (is_late, printed),
-        (false, FIRST.len() as u64),
-        "lines behind a held commit",
-    );
+    let held = (is_late, printed);
+    let first = FIRST.len() as u64;
+    same(rt, held, (false, first), "lines behind a held commit");
     signs.lines_then.load(Ordering::SeqCst)
 }
 

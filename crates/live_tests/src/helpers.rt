@@ -18,7 +18,7 @@ use std::thread::Threads;
 use table_files::TableFiles;
 use written_values::landmark_words;
 
-/// The value of an answer that has to have one.
+// The value of an answer that has to have one.
 pub(crate) fn got<T, E: Drop>(rt: &impl Abort, answer: Result<T, E>) -> T {
     match answer {
         Ok(value) => value,
@@ -26,12 +26,12 @@ pub(crate) fn got<T, E: Drop>(rt: &impl Abort, answer: Result<T, E>) -> T {
     }
 }
 
-/// Sees that two values are the same.
+// Sees that two values are the same.
 pub(crate) fn same<T: Copy + PartialEq + Debug>(rt: &impl Abort, found: T, want: T, name: &str) {
     assert_eq!(rt; found, want, "{name}");
 }
 
-/// Bytes as text.
+// Bytes as text.
 pub(crate) fn text_of<'a>(rt: &impl Abort, bytes: &'a [u8]) -> &'a str {
     got(rt, str::from_utf8(bytes))
 }
@@ -99,13 +99,13 @@ where
             lines: input,
             rounds: setup.rounds,
         },
-        Surroundings {
+        Surroundings::new(
             gate,
-            places: Places {
+            Places {
                 tables,
                 devices: NoDevices::new(),
             },
-        },
+        ),
         &mut WatchedOutput::new(out),
         &mut WatchedWriter::new(err),
     )

@@ -109,12 +109,8 @@ fn judged<R: Threads + Wait + Abort + Sync>(
     let disk = fresh(rt, alloc, 67);
     let input = drawn.input.as_bytes();
     let (served, disk) = run_plain(rt, alloc, disk, setup, input, &mut out, &mut err);
-    same(
-        rt,
-        (served, text_of(rt, &err)),
-        (Served::Printed, ""),
-        "the end",
-    );
+    let end = (served, text_of(rt, &err));
+    same(rt, end, (Served::Printed, ""), "the end");
     let accepted = see_answers(rt, alloc, text_of(rt, &out), drawn.answers.as_str());
     same(rt, accepted > lines / 20, true, "accepted changes");
     let store = reopened(rt, alloc, got(rt, disk.ok_or("no thread")));
@@ -128,20 +124,17 @@ const MANY: Setup = Setup {
     rounds: 16,
 };
 
-#[test]
-fn sixty_four_sessions(rt: HostRuntime) {
-    for seed in 1..4u64 {
-        judged(&rt, rt.alloc(), &MANY, seed, 1_600);
-    }
-}
-
 const NARROW: Setup = Setup {
     words: "none",
     numbers: (64, 1, 1),
     rounds: 1,
 };
 
+/// Three times with ample places, and once at one place.
 #[test]
-fn sixty_four_sessions_at_one_place(rt: HostRuntime) {
+fn sixty_four_sessions(rt: HostRuntime) {
+    for seed in 1..4u64 {
+        judged(&rt, rt.alloc(), &MANY, seed, 1_600);
+    }
     judged(&rt, rt.alloc(), &NARROW, 4, 400);
 }

@@ -38,12 +38,8 @@ fn expect_beginning(rt: &impl Abort, alloc: Global, disk: MemDisk, printed: &[u8
     let lines = printed.iter().filter(|byte| **byte == b'\n').count();
     let accepted = ACCEPTED.get(lines).copied().unwrap_or(4);
     let count = beginning_of(rt, alloc, disk, 3);
-    same(
-        rt,
-        accepted <= count && count <= 3,
-        true,
-        "what was accepted",
-    );
+    let fits = accepted <= count && count <= 3;
+    same(rt, fits, true, "what was accepted");
 }
 
 // Runs on an output that takes so many bytes and flushes, and gives how the service ended.
@@ -75,12 +71,7 @@ fn outputs_that_refuse(rt: HostRuntime) {
         same(&rt, served, OUTPUT.0, "a narrow output");
     }
     let served = narrowed(&rt, rt.alloc(), ANSWERS.len(), u64::MAX);
-    same(
-        &rt,
-        served,
-        Served::Printed,
-        "an output that is wide enough",
-    );
+    same(&rt, served, Served::Printed, "a wide output");
 }
 
 // The first flushes that work, and no more. How many there are depends on when answers come.
@@ -152,30 +143,15 @@ fn expect_failing<R: Threads + Wait + Abort + Sync>(rt: &R, alloc: Global, calls
     let input = got(rt, BufReader::with_capacity(alloc, 512, failing));
     let (mut out, mut err) = (Vec::new(alloc), Vec::new(alloc));
     let disk = fresh(rt, alloc, 5);
-    let (served, disk) = run(
-        Env { rt, alloc },
-        disk,
-        &SETUP,
-        input,
-        &OpenGate,
-        &mut out,
-        &mut err,
-    );
+    let env = Env { rt, alloc };
+    let (served, disk) = run(env, disk, &SETUP, input, &OpenGate, &mut out, &mut err);
     let wanted = first_lines(rt, alloc, calls);
     let found = (served, text_of(rt, &out), text_of(rt, &err));
-    same(
-        rt,
-        found,
-        (OUTPUT.0, wanted.as_str(), OUTPUT.1),
-        "an input that fails",
-    );
+    let want = (OUTPUT.0, wanted.as_str(), OUTPUT.1);
+    same(rt, found, want, "an input that fails");
     let count = beginning_of(rt, alloc, got(rt, disk.ok_or("no thread")), 3);
-    same(
-        rt,
-        Some(count),
-        ACCEPTED.get(calls as usize).copied(),
-        "accepted",
-    );
+    let want = ACCEPTED.get(calls as usize).copied();
+    same(rt, Some(count), want, "accepted");
 }
 
 #[test]

@@ -93,23 +93,12 @@ fn edits_before_the_first_generation(rt: HostRuntime) {
     let mut err = Vec::new(alloc);
     let disk = fresh(&rt, alloc, 1_000);
     let bytes = input.as_bytes();
-    let (served, _disk) = run(
-        Env { rt: &rt, alloc },
-        disk,
-        &setup,
-        bytes,
-        &gate,
-        &mut out,
-        &mut err,
-    );
+    let env = Env { rt: &rt, alloc };
+    let (served, _disk) = run(env, disk, &setup, bytes, &gate, &mut out, &mut err);
     let end = (served, text_of(&rt, &err));
     same(&rt, end, (Served::Printed, ""), "the end");
-    same(
-        &rt,
-        signs.is_late.load(Ordering::SeqCst),
-        false,
-        "edits beside a held build",
-    );
+    let is_late = signs.is_late.load(Ordering::SeqCst);
+    same(&rt, is_late, false, "edits beside a held build");
     let answers = text_of(&rt, &out.text).split('\n');
     let accepted = answers.filter(|line| line.contains("accepted")).count();
     same(&rt, accepted, 2_400, "accepted edits");

@@ -1,5 +1,4 @@
 -- What may go to another thread: the place of tables that a test has.
-use denote.Builtin.{unit}
 use denote.Param.Send.{IsSend, sendable}
 use denote.Ref.{NamedLft}
 use Rattle.std.proofs.Crossing.{crosses}

@@ -10,14 +10,7 @@ use std::thread::Threads;
 use std::{env, fs, process, str};
 use table_files::TablePlaces;
 
-/// The script that makes a device of five nodes with an edge.
-pub(crate) const MADE: &str = "format @ 5 -> 0 formatted nodes=5
-edit @ add:0:1:1 -> 0 accepted count=1";
-
-/// The status, what is printed and what is told.
-pub(crate) type Answer<'a> = (u8, &'a str, &'a str);
-
-/// The value of an answer that has to have one.
+// The value of an answer that has to have one.
 pub(crate) fn got<T, E: Drop>(rt: &impl Abort, answer: Result<T, E>) -> T {
     match answer {
         Ok(value) => value,
@@ -25,15 +18,22 @@ pub(crate) fn got<T, E: Drop>(rt: &impl Abort, answer: Result<T, E>) -> T {
     }
 }
 
-/// Sees that two values are the same.
+// Sees that two values are the same.
 pub(crate) fn same<T: Copy + PartialEq + Debug>(rt: &impl Abort, found: T, want: T, name: &str) {
     assert_eq!(rt; found, want, "{name}");
 }
 
-/// Bytes as text.
+// Bytes as text.
 pub(crate) fn text_of<'a>(rt: &impl Abort, bytes: &'a [u8]) -> &'a str {
     got(rt, str::from_utf8(bytes))
 }
+
+/// The script that makes a device of five nodes with an edge.
+pub(crate) const MADE: &str = "format @ 5 -> 0 formatted nodes=5
+edit @ add:0:1:1 -> 0 accepted count=1";
+
+/// The status, what is printed and what is told.
+pub(crate) type Answer<'a> = (u8, &'a str, &'a str);
 
 // ---- files
 

@@ -92,10 +92,8 @@ fn migration_of_a_device_that_is_held(rt: HostRuntime) {
 }
 
 fn set_mode<R: Files<File = File> + Abort>(rt: &R, path: &str, mode: u32) {
-    got(
-        rt,
-        fs::set_permissions(rt, path, Permissions::from_mode(mode)),
-    );
+    let put = fs::set_permissions(rt, path, Permissions::from_mode(mode));
+    got(rt, put);
 }
 
 // A device that may not be written can be read. (Whoever may do anything, as root, writes it all the same.)

@@ -2,7 +2,7 @@
 use crate::helpers::{same, text_of, words_of};
 use checkpoint::DEVICE_LEN;
 use command_output::{Fault, WatchedWriter};
-use commands::{Access, DeviceLog, Devices, Streams, run_on};
+use commands::{Access, At, DeviceLog, Devices, Streams, run_on};
 use device_commands::format;
 use disk_trait::MemDisk;
 use new_devices::NoDevices;
@@ -113,14 +113,8 @@ fn commands_answer_for_the_device_of_their_path(rt: HostRuntime) {
             err: WatchedWriter::new(&mut err),
         };
         let (mut backups, mut tables) = (NoDevices::new(), NoFiles);
-        let outcome = run_on(
-            rt,
-            &mut devices,
-            &mut backups,
-            &mut tables,
-            &words,
-            &mut streams,
-        );
+        let at = At::new(&mut devices, &mut backups, &mut tables);
+        let outcome = run_on(rt, at, &words, &mut streams);
         drop(streams);
         let found = (outcome.status(), text_of(rt, &out), text_of(rt, &err));
         same(rt, found, (*status, *printed, *told), line);

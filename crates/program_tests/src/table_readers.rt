@@ -161,10 +161,8 @@ where
 {
     let device = device_in(rt, folder);
     let into = path_in(rt, folder, "out");
-    let line = got(
-        rt,
-        format!(in rt.alloc(); "tables @ {} --words {words}", into.as_str()),
-    );
+    let line = format!(in rt.alloc(); "tables @ {} --words {words}", into.as_str());
+    let line = got(rt, line);
     let words = words_of(rt, device.as_str(), line.as_str());
     let files = LookedAt {
         rt: below,
@@ -187,12 +185,8 @@ where
     let is_right = files.is_right.load(Ordering::Relaxed);
     same(rt, is_right, true, "what was done with the files");
     got(rt, text.extend_from_slice(&told));
-    same(
-        rt,
-        (status, text_of(rt, &text), heard.tables),
-        want,
-        line.as_str(),
-    );
+    let found = (status, text_of(rt, &text), heard.tables);
+    same(rt, found, want, line.as_str());
 }
 
 // Sees that the first so many files are tables with no landmark, and the others those with node 2 as one.

@@ -1,5 +1,5 @@
 -- Answers to a whole script, printed at its end.
-use Rattle.std.proofs.Common.{◌≡◌, ◌∷◌, [], ℕ, zero, suc, List, Option, Some, Bool, true, false, None, length, map, refl, sym, ap, ◌∙◌, ⊎_elim, subst, arith}
+use Rattle.std.proofs.Common.{◌≡◌, ◌∷◌, [], ℕ, suc, List, Option, Some, Bool, None, length, map, refl, sym, ap, ◌∙◌, ⊎_elim, subst, arith}
 use Rattle.std.specs.Prelude.{slice_get}
 use Rattle.std.specs.Coded.{Coded-set, coded_bool, coded_option}
 use Rattle.std.specs.Io.KnownBytes.{Appends}

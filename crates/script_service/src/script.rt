@@ -19,7 +19,8 @@ use command_output::{Fault, FaultWriter};
 use disk_trait::Disk;
 use line_exchange::{AnswerWriter, Gatherer, ScriptSource, Served, Stream};
 use live_service::{
-    EngineConfig, Env, Opened, Places, ServedDevice, open_device, seated, serve_opened, take_back,
+    EngineConfig, Env, Kinds, Opened, Places, ServedDevice, open_device, seated, serve_opened,
+    take_back,
 };
 use new_devices::NoDevices;
 use put_lines::BlankBook;
@@ -73,11 +74,7 @@ where
     };
     let (gatherer, served, disk) = serve_opened::<
         J,
-        D,
-        G,
-        NoTables,
-        NoDevices,
-        R,
+        Kinds<D, &'a R, &'a G, NoTables, NoDevices>,
         ScriptSource,
         Gatherer<'b, O>,
     >(env, opened, gate, lines, blank, gatherer);

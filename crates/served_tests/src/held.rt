@@ -114,12 +114,8 @@ fn expect_row<R: Threads + Wait + Abort + Sync>(rt: &R, alloc: Global, row: &Row
     let gate = HeldGate(&signs);
     let (mut out, mut err) = (Vec::new(alloc), Vec::new(alloc));
     let (status, _disk) = run(rt, alloc, disk, &row.asked, &gate, &mut out, &mut err);
-    same(
-        rt,
-        signs.late.load(Ordering::SeqCst),
-        false,
-        "turns that ran out",
-    );
+    let here = signs.late.load(Ordering::SeqCst);
+    same(rt, here, false, "turns that ran out");
     let found = (status, text_of(rt, &out), text_of(rt, &err));
     same(rt, found, (0, row.printed, ""), "the row");
 }

@@ -14,7 +14,7 @@ use std::sync::Wait;
 use std::thread::Threads;
 use written_values::{landmark_words, script};
 
-/// The value of an answer that has to have one.
+// The value of an answer that has to have one.
 pub(crate) fn got<T, E: Drop>(rt: &impl Abort, answer: Result<T, E>) -> T {
     match answer {
         Ok(value) => value,
@@ -22,9 +22,14 @@ pub(crate) fn got<T, E: Drop>(rt: &impl Abort, answer: Result<T, E>) -> T {
     }
 }
 
-/// Sees that two values are the same.
+// Sees that two values are the same.
 pub(crate) fn same<T: Copy + PartialEq + Debug>(rt: &impl Abort, found: T, want: T, name: &str) {
     assert_eq!(rt; found, want, "{name}");
+}
+
+// Bytes as text.
+pub(crate) fn text_of<'a>(rt: &impl Abort, bytes: &'a [u8]) -> &'a str {
+    got(rt, str::from_utf8(bytes))
 }
 
 /// A fresh device.
@@ -35,11 +40,6 @@ pub(crate) fn fresh(rt: &impl Abort, alloc: Global, nodes: u16) -> MemDisk {
 /// The store of a disk.
 pub(crate) fn reopened<D: Disk + Drop>(rt: &impl Abort, alloc: Global, disk: D) -> Store<D> {
     got(rt, stand_ins::opened(alloc, disk))
-}
-
-/// Bytes as text.
-pub(crate) fn text_of<'a>(rt: &impl Abort, bytes: &'a [u8]) -> &'a str {
-    got(rt, str::from_utf8(bytes))
 }
 
 /// How many editors, forwarders and places in the queue there are.

@@ -76,10 +76,8 @@ fn write_op(rt: &impl Abort, text: &mut String, op: &DrawnOp) {
 
 fn write_line(rt: &impl Abort, text: &mut String, line: &DrawnLine) {
     if line.is_route {
-        got(
-            rt,
-            write!(text, "route {} {}", line.ops[0].a, line.ops[0].b),
-        );
+        let put = write!(text, "route {} {}", line.ops[0].a, line.ops[0].b);
+        got(rt, put);
     } else {
         got(rt, write!(text, "{}", line.session));
         write_op(rt, text, &line.ops[0]);
@@ -289,12 +287,8 @@ fn holds_all(rt: &impl Abort, store: &Store<FileDisk>, judge: &Judge<'_>, graph:
     for a in 0..8u64 {
         for b in 0..8u64 {
             let weight = store.graph().weight(a as u16, b as u16).unwrap_or(0);
-            same(
-                rt,
-                (a, b, weight as u64),
-                (a, b, graph.weight(a, b)),
-                "weight",
-            );
+            let found = (a, b, weight as u64);
+            same(rt, found, (a, b, graph.weight(a, b)), "weight");
         }
     }
     for session in 0..3u8 {
@@ -315,19 +309,12 @@ fn judged<R: Files<File = File> + Threads + Wait + Abort + Sync>(rt: &R, alloc: 
     };
     let graphs = judge.graphs(rt, alloc);
     same(rt, judge.accepted() > 10, true, "accepted changes");
-    same(
-        rt,
-        graphs.len(),
-        judge.accepted().wrapping_add(1),
-        "counts go on one by one",
-    );
+    let found = graphs.len();
+    let want = judge.accepted().wrapping_add(1);
+    same(rt, found, want, "counts go on one by one");
     for session in 0..3u64 {
-        same(
-            rt,
-            judge.is_lawful_session(&graphs, session),
-            true,
-            "a session",
-        );
+        let found = judge.is_lawful_session(&graphs, session);
+        same(rt, found, true, "a session");
     }
     same(rt, judge.are_lawful_routes(&graphs), true, "the routes");
     let store = reopened(rt, alloc, got(rt, FileDisk::open(rt, PATH)));

@@ -52,12 +52,8 @@ fn expect_each_session<R: Threads + Wait + Abort + Sync>(rt: &R, alloc: Global, 
     same(rt, (status, text_of(rt, &err)), (0, ""), "status");
     let lines = lines_in(rt, alloc, text_of(rt, &out));
     same(rt, lines.len(), 2 * editors as usize, "lines");
-    same(
-        rt,
-        is_each_once(&lines, editors as u64),
-        true,
-        "each count once",
-    );
+    let found = is_each_once(&lines, editors as u64);
+    same(rt, found, true, "each count once");
     for (node, line) in lines.iter().skip(1).step_by(2).enumerate() {
         same(rt, stays_at(line, node as u64), true, "a way of one node");
     }

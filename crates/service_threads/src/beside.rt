@@ -13,11 +13,11 @@ ghost use Rattle.service_threads.specs.Tables.{IsBuiltOf, IsGraphOf};
 use crate::backing::back_up;
 use crate::causes::cause_of_rebuild;
 use crate::committing::{Rebuilds, next_graph, stand_of, told_round};
+use crate::setting::Setting;
 use arrayvec::ArrayVec;
 use committer::{Committer, Round};
 use disk_trait::Disk;
 use generations::MOST_SHELVED;
-use new_devices::NewDevices;
 use packet_ways::BoardName;
 use scheme_builds::{scheme_of_in_turns, workers_here};
 use schemes::Scheme;
@@ -25,15 +25,16 @@ use service_workers::{Coordinator, Gate, GenerationGraph, StopCause, WordSource}
 use std::alloc::{AllocError, Global};
 use std::snapshot::Snapshot;
 use std::sync::{Arc, Wait};
+use std::thread;
 use std::thread::{Promise, PromisedHandle, Scope, Threads};
 
 /// Where the rounds and builds of a service go on: what they work by, the lock at which all threads wait, and what may hold up a build.
 #[derive(Drop)]
-pub struct Site<'a, J: BoardName, G, S> {
-    pub rt: &'a S,
+pub struct Site<'a, J: BoardName, A: Setting> {
+    pub rt: &'a A::Runtime,
     pub alloc: Global,
     pub coordinator: &'a Coordinator<J>,
-    pub gate: &'a G,
+    pub gate: &'a A::Gate,
 }
 
 /// The schemes of the newest generations, which the board has too. To let one go takes long. So the one that is pushed out is kept until
@@ -106,17 +107,9 @@ fn next_words(alloc: Global, source: &mut WordSource, nodes: u16) -> Result<Vec<
 }
 
 // Begins a build of the store's graph. Its thread lets the outgoing scheme go before.
-fn begin<
-    's,
-    E,
-    J: BoardName + Send + Sync,
-    D: Disk,
-    G: Gate + Sync,
-    R: Wait + Drop,
-    S: Threads + Wait + Sync,
->(
+fn begin<'s, E, J: BoardName + Send + Sync, D: Disk, A: Setting, R: Wait + Drop>(
     scope: &Scope<'s, E>,
-    site: &Site<'s, J, G, S>,
+    site: &Site<'s, J, A>,
     committer: &Committer<D, R>,
     source: &mut WordSource,
     outgoing: Option<Arc<Scheme, Global>>,
@@ -151,8 +144,8 @@ fn begin<
 
 // Waits for a build's scheme, and posts it under the number of its graph. The graph is shown before. Its number is the answer. The board
 // lets go at once of the generation that this pushed out, so that no more than four are there when the next build begins.
-fn post<J: BoardName, D: Disk, G: Gate, R: Wait + Drop, S: Threads + Wait>(
-    site: &Site<J, G, S>,
+fn post<J: BoardName, D: Disk, A: Setting, R: Wait + Drop>(
+    site: &Site<J, A>,
     committer: &mut Committer<D, R>,
     shelf: &mut Shelf,
     newest: Option<u64>,
@@ -203,9 +196,9 @@ impl Rebuilds {
     }
 
     // Posts what was built, if a build has ended. Then none goes on.
-    fn post_built<J: BoardName, D: Disk, G: Gate, R: Wait + Drop, S: Threads + Wait>(
+    fn post_built<J: BoardName, D: Disk, A: Setting, R: Wait + Drop>(
         &mut self,
-        site: &Site<J, G, S>,
+        site: &Site<J, A>,
         committer: &mut Committer<D, R>,
         built: bool,
     ) -> Result<(), StopCause>
@@ -227,18 +220,10 @@ impl Rebuilds {
     }
 
     // Begins a build where one is due behind a round that took so many requests, and none goes on.
-    fn begin_due<
-        's,
-        E,
-        J: BoardName + Send + Sync,
-        D: Disk,
-        G: Gate + Sync,
-        R: Wait + Drop,
-        S: Threads + Wait + Sync,
-    >(
+    fn begin_due<'s, E, J: BoardName + Send + Sync, D: Disk, A: Setting, R: Wait + Drop>(
         &mut self,
         scope: &Scope<'s, E>,
-        site: &Site<'s, J, G, S>,
+        site: &Site<'s, J, A>,
         committer: &Committer<D, R>,
         taken: usize,
     ) -> Result<(), StopCause>
@@ -252,6 +237,8 @@ impl Rebuilds {
         if self.building.is_some() || !self.is_due(taken, committer.store().count()) {
             return Ok(());
         }
+        // Whoever was told of the round may wait for this processor: answers go before the build.
+        thread::yield_now();
         let outgoing = self.shelf.outgoing.take();
         let build = begin(scope, site, committer, &mut self.source, outgoing)?;
         self.building = Some(build);
@@ -259,18 +246,10 @@ impl Rebuilds {
     }
 
     // Begins the first build, of what the store holds at the start, or has all stop.
-    fn begin_first<
-        's,
-        E,
-        J: BoardName + Send + Sync,
-        D: Disk,
-        G: Gate + Sync,
-        R: Wait + Drop,
-        S: Threads + Wait + Sync,
-    >(
+    fn begin_first<'s, E, J: BoardName + Send + Sync, D: Disk, A: Setting, R: Wait + Drop>(
         &mut self,
         scope: &Scope<'s, E>,
-        site: &Site<'s, J, G, S>,
+        site: &Site<'s, J, A>,
         committer: &Committer<D, R>,
     ) -> Result<(), StopCause>
         requires fresh { IsFresh committer.now }
@@ -292,17 +271,9 @@ impl Rebuilds {
 
 // What was built is posted; then a round, and its marks told; then the next build begins where one is due: behind one that has ended as
 // soon as it lacks a change. Whatever ends it, the device holds the state before the turn or the one after its whole group.
-fn turn_beside<
-    's,
-    E,
-    J: BoardName + Send + Sync,
-    D: Disk,
-    G: Gate + Sync,
-    R: Wait + Drop,
-    S: Threads + Wait + Sync,
->(
+fn turn_beside<'s, E, J: BoardName + Send + Sync, D: Disk, A: Setting, R: Wait + Drop>(
     scope: &Scope<'s, E>,
-    site: &Site<'s, J, G, S>,
+    site: &Site<'s, J, A>,
     committer: &mut Committer<D, R>,
     rebuilds: &mut Rebuilds,
     built: bool,
@@ -317,8 +288,16 @@ fn turn_beside<
     ensures up_to_date { IfOk result (λ round. round.taken ≡ 0 → rebuilds.new.building ≡ None → IsUpToDate committer.new) }
     ensures device { IfErr result (λ cause. cause ≡ StopCause.Device → HasLostDevice committer.old committer.new) }
 {
+    let (rt, alloc, coordinator) = (site.rt, site.alloc, site.coordinator);
     rebuilds.post_built(site, committer, built)?;
-    let round = told_round(site, committer, rebuilds.newest)?;
+    let round = told_round(
+        rt,
+        alloc,
+        coordinator,
+        site.gate,
+        committer,
+        rebuilds.newest,
+    )?;
     rebuilds.begin_due(scope, site, committer, awaited(round.taken, built))?;
     Ok(round)
 }
@@ -326,21 +305,12 @@ fn turn_beside<
 /// Commits what editors submit, as [`commit_all`](crate::commit_all) does, and builds tables beside that: a round waits for no build. The
 /// first one begins before the first round. One build goes on at a time, of the graph at its beginning, in a thread of the scope; the next
 /// one begins behind it at once where a change lacks.
-pub fn commit_beside<
-    's,
-    E,
-    J: BoardName + Send + Sync,
-    D: Disk,
-    G: Gate + Sync,
-    R: Wait + Drop,
-    F: NewDevices,
-    S: Threads + Wait + Sync,
->(
+pub fn commit_beside<'s, E, J: BoardName + Send + Sync, D: Disk, A: Setting, R: Wait + Drop>(
     scope: &Scope<'s, E>,
-    site: &Site<'s, J, G, S>,
+    site: &Site<'s, J, A>,
     committer: &mut Committer<D, R>,
     rebuilds: &mut Rebuilds,
-    devices: &mut F,
+    devices: &mut A::Devices,
 ) -> Result<bool, StopCause>
     requires opening { (posts_of committer.old).opening ≡ J.opening }
     requires fresh { IsFresh committer.old }

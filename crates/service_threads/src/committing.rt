@@ -12,7 +12,7 @@ ghost use Rattle.service_threads.specs.Kept.{HasLostDevice, HasSettledAll, HasSe
 ghost use Rattle.service_threads.specs.Tables.{IsGraphOf};
 
 use crate::backing::back_up;
-use crate::beside::{Build, Shelf, Site};
+use crate::beside::{Build, Shelf};
 use crate::causes::{cause_of_rebuild, cause_of_round};
 use committer::{Committer, Round};
 use disk_trait::Disk;
@@ -202,7 +202,10 @@ pub(crate) fn stand_of<J: BoardName, D: Disk, R: Wait + Drop>(
 // One round, its time taken where it committed something, and its marks told. Whatever ends it, the device holds the state before the round or the one after its whole
 // group.
 pub(crate) fn told_round<J: BoardName, D: Disk, G: Gate, R: Wait + Drop, S: Wait>(
-    site: &Site<J, G, S>,
+    rt: &S,
+    alloc: Global,
+    coordinator: &Coordinator<J>,
+    gate: &G,
     committer: &mut Committer<D, R>,
     newest: Option<u64>,
 ) -> Result<Round, StopCause>
@@ -217,14 +220,13 @@ pub(crate) fn told_round<J: BoardName, D: Disk, G: Gate, R: Wait + Drop, S: Wait
     ensures listed { StaysListed committer.old committer.new }
     ensures device { IfErr result (λ cause. cause ≡ StopCause.Device → HasLostDevice committer.old committer.new) }
 {
-    let (rt, coordinator) = (site.rt, site.coordinator);
-    let (before, begun) = (committer.store().count(), site.gate.micros());
-    let round = match committer.round(site.alloc, rt) {
+    let (before, begun) = (committer.store().count(), gate.micros());
+    let round = match committer.round(alloc, rt) {
         Ok(round) => round,
         Err(refused) => return Err(cause_of_round(refused)),
     };
     if before < committer.store().count() {
-        coordinator.add_commit(rt, site.gate.micros().saturating_sub(begun));
+        coordinator.add_commit(rt, gate.micros().saturating_sub(begun));
     }
     if round.taken > 0 {
         coordinator.tell(rt, stand_of::<J, D, R>(committer, newest), round.taken);
@@ -255,13 +257,14 @@ fn turn<J: BoardName, D: Disk, R: Wait + Drop, S: Threads + Wait + Sync>(
     ensures listed { StaysListed committer.old committer.new }
     ensures device { IfErr result (λ cause. cause ≡ StopCause.Device → HasLostDevice committer.old committer.new) }
 {
-    let site = Site {
+    let round = told_round(
         rt,
         alloc,
         coordinator,
-        gate: &OpenGate,
-    };
-    let round = told_round(&site, committer, rebuilds.newest)?;
+        &OpenGate,
+        committer,
+        rebuilds.newest,
+    )?;
     if rebuilds.is_due(round.taken, committer.store().count()) {
         coordinator.show(rt, next_graph(alloc, committer)?);
         rebuilds.rebuild::<J, D, R, S>(rt, alloc, committer)?;

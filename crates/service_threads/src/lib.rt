@@ -35,8 +35,10 @@ mod beside;
 mod causes;
 mod committing;
 mod config;
+mod setting;
 
 pub use beside::{Site, commit_beside};
 pub use committing::{Rebuilds, begun, commit_all};
 pub use config::ServiceConfig;
 pub use service_workers::{Gate, OpenGate};
+pub use setting::Setting;

@@ -15,7 +15,7 @@ returns-in-Ok-clause-runs g c =
     let by = c.run_understood.ensures.runs in
     let asked = c.in-Ok.ensures.asked in
     record {
-      outcome = asked_so g.F.Device.Disk (HasDone g.F.Devices.opened g.F.Devices.events c.args.devices.now c.run_understood.new.devices) (PutBy g.T.TableFiles.puts c.args.tables.now c.run_understood.new.tables) (texts c.args.words.now) c.in-Ok.task (g.S.Read.remaining c.args.streams.script.now)
+      outcome = asked_so g.P.Devices.Device.Disk (HasDone g.P.Devices.Devices.opened g.P.Devices.Devices.events c.args.at.devices.now c.run_understood.new.at.0) (PutBy g.P.Tables.TableFiles.puts c.args.at.tables.now c.run_understood.new.at.1.1.0) (texts c.args.words.now) c.in-Ok.task (g.S.Read.remaining c.args.streams.script.now)
           (g.O.Write.contents c.args.streams.out.now) (g.O.Write.contents c.run_understood.new.streams.1.0) (g.E.FaultWriter.contents c.args.streams.err.now) (g.E.FaultWriter.contents c.run_understood.new.streams.1.1.0) c.run_understood.result asked by.outcome;
       untouched = λ other. by.untouched (λ live. other (c.in-Ok.task, asked, live));
       unread = λ other. by.unread (λ service. other (c.in-Ok.task, asked, service));
@@ -29,14 +29,14 @@ returns-in-Ok-clause-unmade g c batch = c.run_understood.ensures.unmade (λ live
 
 pub returns-in-Err-clause-runs : goal.returns-in-Err-clause-runs
 returns-in-Err-clause-runs g c =
-    let done = HasDone g.F.Devices.opened g.F.Devices.events c.args.devices.now c.args.devices.now in
-    let put = PutBy g.T.TableFiles.puts c.args.tables.now c.args.tables.now in
+    let done = HasDone g.P.Devices.Devices.opened g.P.Devices.Devices.events c.args.at.devices.now c.args.at.devices.now in
+    let put = PutBy g.P.Tables.TableFiles.puts c.args.at.tables.now c.args.at.tables.now in
     let given = g.S.Read.remaining c.args.streams.script.now in
     let old = g.O.Write.contents c.args.streams.out.now in
     let why = c.in-Err.ensures in
     record {
-      outcome = refused_so g.F.Device.Disk done put (texts c.args.words.now) given old old (g.E.FaultWriter.contents c.args.streams.err.now) (g.E.FaultWriter.contents c.told.new.err) c.fault_of.result c.told.result c.told.ensures.told
-          (refused_for g.F.Device.Disk done put (texts c.args.words.now) given old old c.in-Err.refused c.fault_of.result c.fault_of.ensures (nothing_done g.F.Devices.opened g.F.Devices.events c.args.devices.now) why.cause why.refused);
+      outcome = refused_so g.P.Devices.Device.Disk done put (texts c.args.words.now) given old old (g.E.FaultWriter.contents c.args.streams.err.now) (g.E.FaultWriter.contents c.told.new.err) c.fault_of.result c.told.result c.told.ensures.told
+          (refused_for g.P.Devices.Device.Disk done put (texts c.args.words.now) given old old c.in-Err.refused c.fault_of.result c.fault_of.ensures (nothing_done g.P.Devices.Devices.opened g.P.Devices.Devices.events c.args.at.devices.now) why.cause why.refused);
       untouched = λ batch fault other which. refl {a = c.args.streams.out.now};
       unread = λ other. refl {a = c.args.streams.script.now};
     }

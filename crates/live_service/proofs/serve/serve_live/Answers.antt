@@ -16,11 +16,11 @@ returns-in-Err-clause-printed g c =
 
 pub returns-in-Err-clause-ended : goal.returns-in-Err-clause-ended
 returns-in-Err-clause-ended g c =
-    subst (λ o. IfSome o (λ f. IsServeEnd g.D.Disk c.args.device.disk c.args.device.words (Some c.in-Err.disk) f)) (sym c.told.ensures.fault)
-    (refused_end g.D.Disk c.args.device.disk c.in-Err.disk c.args.device.words c.in-Err.fault c.in-Err.ensures.refused)
+    subst (λ o. IfSome o (λ f. IsServeEnd g.A.Device.Disk c.args.device.disk c.args.device.words (Some c.in-Err.disk) f)) (sym c.told.ensures.fault)
+    (refused_end g.A.Device.Disk c.args.device.disk c.in-Err.disk c.args.device.words c.in-Err.fault c.in-Err.ensures.refused)
 
 pub returns-in-Err-clause-left : goal.returns-in-Err-clause-left
-returns-in-Err-clause-left g c = read_left g.D.Disk c.args.device.disk c.in-Err.disk c.in-Err.ensures.refused.ran c.in-Err.ensures.refused.reads
+returns-in-Err-clause-left g c = read_left g.A.Device.Disk c.args.device.disk c.in-Err.disk c.in-Err.ensures.refused.ran c.in-Err.ensures.refused.reads
 
 pub returns-clause-ended : goal.returns-clause-ended
 returns-clause-ended g c =
@@ -42,5 +42,5 @@ returns-clause-one_list g c is =
     let back = c.serve_stream.result.1 in
     let input = Bytes (g.S.Read.remaining c.args.input.lines) in
     let text = g.O.AnswerWriter.contents in
-    subst (λ (n : ℕ). AnswersInput g.D.Disk c.args.device.disk back input n text c.args.out.now c.serve_stream.new.out) c.seated.ensures.editors
+    subst (λ (n : ℕ). AnswersInput g.A.Device.Disk c.args.device.disk back input n text c.args.out.now c.serve_stream.new.out) c.seated.ensures.editors
     (answered answer_text c.args.device.disk store input c.seated.result.editors (text c.args.out.now) (text c.serve_stream.new.out) back c.in-Ok.ensures.opened (c.serve_stream.ensures.one_list is))

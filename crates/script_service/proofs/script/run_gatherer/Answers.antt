@@ -13,11 +13,11 @@ use Rattle.device_files.proofs.Sending.{file_send}
 use Rattle.new_devices.proofs.Sending.{none_send}
 use Rattle.script_service.proofs.script.run_gatherer.Goals as goal
 
-pub serve_opened-gatherer-requires-send-F : goal.serve_opened-gatherer-requires-send-F
-serve_opened-gatherer-requires-send-F g c κs within = search (crosses, sendable, none_send) depth 60
+pub serve_opened-gatherer-requires-send-A-Devices : goal.serve_opened-gatherer-requires-send-A-Devices
+serve_opened-gatherer-requires-send-A-Devices g c κs within = search (crosses, sendable, none_send) depth 60
 
-pub serve_opened-gatherer-requires-send-F-Device : goal.serve_opened-gatherer-requires-send-F-Device
-serve_opened-gatherer-requires-send-F-Device g c κs within = search (crosses, sendable, file_send) depth 60
+pub serve_opened-gatherer-requires-send-A-Devices-Device : goal.serve_opened-gatherer-requires-send-A-Devices-Device
+serve_opened-gatherer-requires-send-A-Devices-Device g c κs within = search (crosses, sendable, file_send) depth 60
 
 pub serve_opened-gatherer-requires-clause-builds : goal.serve_opened-gatherer-requires-clause-builds
 serve_opened-gatherer-requires-clause-builds g c κs within = c.requires.builds ∙ sym (ap builds_of c.requires.script)

@@ -1,5 +1,4 @@
-use Rattle.std.proofs.Common.{◌≡◌, ◌≢◌, ◌∙◌, ℕ, sym, subst, Some}
-use Rattle.command_output.specs.declared.fault.Fault.{Fault}
+use Rattle.std.proofs.Common.{◌≡◌, ◌≢◌, ℕ, subst}
 use Rattle.command_output.specs.declared.fault.Fault.TheVariants.{Output}
 use Rattle.live_service.specs.ServeEnds.{IsServeEnd}
 use Rattle.live_service.proofs.Telling.{refused_end, start_other}

@@ -3,7 +3,7 @@ use Rattle.service_threads.proofs.OnWay.{goes_listed, goes_posted, goes_stand}
 use Rattle.service_threads.proofs.committing.Rebuilds.post_built.Goals as goal
 
 pub post-requires-clause-stands : goal.post-requires-clause-stands
-post-requires-clause-stands g c =
+post-requires-clause-stands g c κs within =
     let some : c.args.self.now.building ≡ Some c.in-Some.build = search rules in
     goes_stand c.requires.goes.0 c.args.committer.now c.args.self.now c.in-Some.build c.requires.goes.1 some
 

@@ -1,4 +1,4 @@
-use Rattle.std.proofs.Common.{◌≡◌, Some, inl, inr, ap, subst}
+use Rattle.std.proofs.Common.{Some, inl, inr, subst}
 use Rattle.checkpoint.specs.declared.store.Store.{Store}
 use Rattle.command_output.specs.declared.fault.Fault.TheVariants.{NoThread}
 use Rattle.live_service.specs.ServedList.{EndsServed}
@@ -12,8 +12,8 @@ returns g c =
     let printed = c.print-console.result.1 in
     let engine = c.join-ended.result.0 in
     let back = c.join-ended.result.1 in
-    let ends : EndsServed g.B.BoardName.opening g.J.Stream.book store g.J.Stream.input g.J.Stream.editors engine (g.D.Disk.view back) =
-    subst (λ (s : Store g.row.D.Denot g.D.Disk). EndsServed g.B.BoardName.opening g.J.Stream.book s g.J.Stream.input g.J.Stream.editors engine (g.D.Disk.view back)) c.in-Ok.ensures.made c.join-ended.ensures in
+    let ends : EndsServed g.B.BoardName.opening g.J.Stream.book store g.J.Stream.input g.J.Stream.editors engine (g.A.Device.Disk.view back) =
+    subst (λ (s : Store g.row.A-Device.Denot g.A.Device.Disk). EndsServed g.B.BoardName.opening g.J.Stream.book s g.J.Stream.input g.J.Stream.editors engine (g.A.Device.Disk.view back)) c.in-Ok.ensures.made c.join-ended.ensures in
     record {
       engine_end = (engine, record { disk = ends.disk; fault = c.conclude-console.ensures.fault });
       console = inl (record {
