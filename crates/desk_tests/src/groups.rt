@@ -28,7 +28,7 @@ fn commits_a_group_as_one_record(rt: HostRuntime) {
         [Op::Set(1, 0, 9), Op::Cut(0, 1), Op::Add(3, 2, 5)],
     );
     let refused = [accepted(0, 1, 1), refused(1, 1, 0, Code::EdgeThere)];
-    let taken = [accepted(0, 1, 1), accepted(1, 1, 2)];
+    let taken = [accepted(1, 1, 1), accepted(63, 258, 2)];
     let table: [([Ask; 2], [Mark; 2], usize, Option<u32>, &str); 2] = [
         (
             [(0, 1, &first), (1, 1, &again)],
@@ -38,11 +38,11 @@ fn commits_a_group_as_one_record(rt: HostRuntime) {
             "01 00000015 0001 00 0000000000000001 01 01 0000 0001 00000001 00",
         ),
         (
-            [(0, 1, &other), (1, 1, &three)],
+            [(1, 1, &other), (63, 258, &three)],
             taken,
             2,
             None,
-            "01 0000003a 0002 00 0000000000000001 01 01 0000 0001 00000007 01 0000000000000001 03 02 0001 0000 00000009 03 0000 0001 00000000 01 0003 0002 00000005 00",
+            "01 0000003a 0002 01 0000000000000001 01 01 0000 0001 00000007 3f 0000000000000102 03 02 0001 0000 00000009 03 0000 0001 00000000 01 0003 0002 00000005 00",
         ),
     ];
     for (asked, marks, number, weight, bytes) in &table {

@@ -112,10 +112,11 @@ pub(crate) fn full_but(
 }
 
 // Where a number is written, the number, and the count that the desk has then. Where the first is written, the group needs a roll and
-// has no epoch left; where the second is, the count stands at its limit.
-const WORN: [(usize, u64, u64); 2] = [
+// has no epoch left; where the second is, the count stands at its limit; and where the third is, all but one of the group have room.
+const WORN: [(usize, u64, u64); 3] = [
     (EPOCH, WORN_LIMIT, 6784),
     (COUNT, WORN_LIMIT - 6784, WORN_LIMIT),
+    (COUNT, WORN_LIMIT - 6805, WORN_LIMIT - 21),
 ];
 
 // Gives changes to a desk over this disk and commits them, which has to be refused as worn: so many are held then, and the count.

@@ -1,9 +1,10 @@
-// Two records with each byte changed to each other, against a plain second reader.
+// The bytes of two records, and each of them changed to each other, against a plain second reader.
 use crate::appends::{append_to, scan_of};
 use crate::helpers::{blank, bytes, got, put, same};
 use disk_trait::MemDisk;
 use graph_edits::{Change, Op};
-use journal::{Area, Journal, ScanRefused};
+use journal::{Area, Journal, ScanRefused, record_law, spelling_laws};
+use requests::Request;
 use std::alloc::Global;
 use std::process::Abort;
 
@@ -121,6 +122,19 @@ fn is_read(rt: &impl Abort, alloc: Global, disk: &mut MemDisk, spoilt: &[u8]) ->
     }
 }
 
+/// A record of one change, one of two changes, which are four ops in all, and a closed gate.
+const RECORDS: [u8; 63] = [
+    1, 0, 0, 0, 12, 0, 1, 1, 1, 0, 0, 0, 1, 0, 0, 0, 1, //
+    1, 0, 0, 0, 40, 0, 2, 1, 1, 0, 0, 0, 1, 0, 0, 0, 7, 3, 2, 0, 1, 0, 0, 0, 0, 0, 9, 3, 0, 0, 0,
+    1, 0, 0, 0, 0, 1, 0, 3, 0, 2, 0, 0, 0, 5, 0,
+];
+
+/// Sees that these records stand on a disk.
+fn shows_records(rt: &impl Abort, disk: &mut MemDisk) {
+    let found = bytes::<MemDisk, 63>(rt, disk, 3);
+    same(rt, found, RECORDS, "the bytes");
+}
+
 #[test]
 fn each_byte_of_two_records_changed_to_each_other(rt: HostRuntime) {
     let alloc = rt.alloc();
@@ -137,6 +151,7 @@ fn each_byte_of_two_records_changed_to_each_other(rt: HostRuntime) {
     let first = append_to(rt, alloc, &mut journal, &mut disk, &changes[..1]);
     let second = append_to(rt, alloc, &mut journal, &mut disk, &changes[1..]);
     same(rt, (first, second), (Ok(()), Ok(())), "two records");
+    shows_records(rt, &mut disk);
     let whole = bytes::<MemDisk, 66>(rt, &mut disk, 3);
     let (mut damaged, mut read) = (0u32, 0u32);
     for place in 0..66usize {
@@ -152,4 +167,7 @@ fn each_byte_of_two_records_changed_to_each_other(rt: HostRuntime) {
     }
     let many = damaged > 1_000 && read > 1_000;
     same(rt, (damaged, read, many), (damaged, read, true), "both");
+    spelling_laws::<Change>();
+    spelling_laws::<Request>();
+    record_law();
 }

@@ -7,19 +7,6 @@ use recent_changes::changes_of;
 use std::alloc::Global;
 use std::process::Abort;
 
-#[test]
-fn info_of_a_device_that_fails(rt: HostRuntime) {
-    let alloc = rt.alloc();
-    let rt = &rt;
-    let mut disk = got(rt, stand_ins::formatted(alloc, 5));
-    disk.fail_at(1);
-    let Err(refused) = info_of(alloc, &mut disk) else {
-        panic!(rt; "told");
-    };
-    let name = "a sync that fails";
-    same(rt, refused, OpenRefused::Device, name);
-}
-
 // A new device of which this call fails.
 fn failing(rt: &impl Abort, alloc: Global, call: u64) -> MemDisk {
     let mut disk = got(rt, stand_ins::formatted(alloc, 5));

@@ -248,12 +248,8 @@ fn owners_of_the_oldest<R: Wait + Abort>(
 
 #[test]
 fn lets_the_oldest_go_once_it_is_published_again(rt: HostRuntime) -> Result<(), Fail> {
-    same(
-        &rt,
-        owners_of_the_oldest(&rt, rt.alloc())?,
-        (2, 1),
-        "owners",
-    );
+    let found = owners_of_the_oldest(&rt, rt.alloc())?;
+    same(&rt, found, (2, 1), "owners");
     Ok(())
 }
 

@@ -59,12 +59,8 @@ fn first_hop(rt: &impl Abort, forwarder: &mut Forwarder) -> Packet
     let Ok(Move::Forward { port, next, packet }) = forwarder.hop(0, sent) else {
         panic!(rt; "not forwarded");
     };
-    same(
-        rt,
-        (port, next, packet.generation),
-        (0, 1, 1),
-        "the first hop",
-    );
+    let found = (port, next, packet.generation);
+    same(rt, found, (0, 1, 1), "the first hop");
     packet
 }
 

@@ -71,11 +71,7 @@ fn two_forwarders_while_a_writer_posts(rt: HostRuntime) -> Result<(), Fail> {
     let first = got(rt, thread::spawn(rt, move || trips(one)));
     let second = got(rt, thread::spawn(rt, move || trips(two)));
     post_up_to(rt, alloc, &mut writer, 1, 60);
-    same(
-        rt,
-        (first.join(rt), second.join(rt)),
-        (TRIPS, TRIPS),
-        "trips",
-    );
+    let found = (first.join(rt), second.join(rt));
+    same(rt, found, (TRIPS, TRIPS), "trips");
     Ok(())
 }

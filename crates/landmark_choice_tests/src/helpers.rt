@@ -6,7 +6,7 @@ use std::alloc::Global;
 use std::process::Abort;
 use std::thread::Threads;
 
-/// The value of an answer that has to have one.
+// The value of an answer that has to have one.
 pub(crate) fn got<T, E: Drop>(rt: &impl Abort, answer: Result<T, E>) -> T {
     match answer {
         Ok(value) => value,
@@ -45,10 +45,7 @@ pub(crate) fn chosen(
     start: Start,
     limits: Limits,
 ) -> Choice {
-    match choose_from(alloc, balls, words, start, limits) {
-        Ok(choice) => choice,
-        Err(_) => got(rt, choose_from(alloc, balls, words, start, limits)),
-    }
+    got(rt, choose_from(alloc, balls, words, start, limits))
 }
 
 /// The best choice of all starts.

@@ -1,12 +1,12 @@
 // A plain chooser: it knows the distances of all nodes, and counts all tables anew for each landmark.
 use landmark_choice::{Limits, Measure, Start};
-use sample_networks::{Edge, plain_distances};
+use sample_networks::{Edge, PlainGraph};
 use std::alloc::{AllocError, Global};
 
 /// A network by the distances between its nodes.
 #[derive(Drop)]
 pub(crate) struct Plain {
-    distances: Vec<Vec<Option<u64>>>,
+    graph: PlainGraph,
     // how many nodes lie nearer to the node of a row than that of a column, or as near with a smaller number
     places: Vec<Vec<usize>>,
     degrees: Vec<u64>,
@@ -14,38 +14,24 @@ pub(crate) struct Plain {
 
 impl Plain {
     pub(crate) fn of(alloc: Global, nodes: u16, edges: &[Edge]) -> Result<Plain, AllocError> {
-        let mut distances = Vec::new(alloc);
-        let mut degrees = Vec::new(alloc);
-        for node in 0..nodes {
-            distances.push(plain_distances(alloc, nodes, edges, node)?)?;
-            let ends = edges.iter().filter(|edge| edge.0 == node || edge.1 == node);
-            degrees.push(ends.count() as u64)?;
-        }
-        let mut places = Vec::new(alloc);
-        for row in &distances {
+        let graph = PlainGraph::new(alloc, nodes, edges)?;
+        let (mut places, mut degrees) = (Vec::new(alloc), Vec::new(alloc));
+        for row in &graph.distances {
             places.push(places_in(alloc, row)?)?;
         }
+        for node in 0..nodes {
+            degrees.push(graph.neighbours(alloc, node)?.len() as u64)?;
+        }
         Ok(Plain {
-            distances,
+            graph,
             places,
             degrees,
         })
     }
 
-    fn distance(&self, a: u16, b: u16) -> Option<u64> {
-        match self.distances.get(a as usize) {
-            Some(row) => row.get(b as usize).copied().flatten(),
-            None => None,
-        }
-    }
-
-    fn nodes(&self) -> u16 {
-        u16::try_from(self.distances.len()).unwrap_or(u16::MAX)
-    }
-
     // How many nodes a node counts: one more than a table may have entries and members, or than four times the square root of all.
     fn counted(&self, limits: Limits) -> usize {
-        let roots = (16 * self.nodes() as u64).isqrt() as usize;
+        let roots = (16 * self.graph.nodes as u64).isqrt() as usize;
         roots.max(limits.most_entries as usize).saturating_add(1)
     }
 
@@ -58,11 +44,11 @@ impl Plain {
 
     // Whether a node is nearer to another one than every landmark.
     fn is_nearer(&self, node: u16, other: u16, landmarks: &[u16]) -> bool {
-        let Some(distance) = self.distance(node, other) else {
+        let Some(distance) = self.graph.distance(node, other) else {
             return false;
         };
         for landmark in landmarks {
-            if let Some(there) = self.distance(node, *landmark) {
+            if let Some(there) = self.graph.distance(node, *landmark) {
                 if there <= distance {
                     return false;
                 }
@@ -79,7 +65,7 @@ impl Plain {
     // How many of those a node has.
     fn count(&self, node: u16, landmarks: &[u16], limits: Limits) -> u64 {
         let mut count: u64 = 0;
-        for other in 0..self.nodes() {
+        for other in 0..self.graph.nodes {
             if self.has(node, other, landmarks, limits) {
                 count = count.saturating_add(1);
             }
@@ -91,11 +77,11 @@ impl Plain {
     fn size(&self, node: u16, landmarks: &[u16], limits: Limits) -> u64 {
         let mut size = self.count(node, landmarks, limits);
         for landmark in landmarks {
-            if self.distance(node, *landmark).is_some() {
+            if self.graph.distance(node, *landmark).is_some() {
                 size = size.saturating_add(1);
             }
         }
-        for other in 0..self.nodes() {
+        for other in 0..self.graph.nodes {
             if self.has(other, node, landmarks, limits) {
                 size = size.saturating_add(1);
             }
@@ -110,7 +96,7 @@ impl Plain {
             greatest: 0,
             total: 0,
         };
-        for node in 0..self.nodes() {
+        for node in 0..self.graph.nodes {
             let size = self.size(node, landmarks, limits);
             measure.greatest = measure.greatest.max(size);
             measure.total = measure.total.saturating_add(size);
@@ -124,9 +110,9 @@ impl Plain {
     // The sum of the distances from a node to those that are counted.
     fn reach(&self, node: u16, limits: Limits) -> u64 {
         let mut reach: u64 = 0;
-        for other in 0..self.nodes() {
+        for other in 0..self.graph.nodes {
             if self.place(node, other) < self.counted(limits) {
-                reach = reach.saturating_add(self.distance(node, other).unwrap_or(0));
+                reach = reach.saturating_add(self.graph.distance(node, other).unwrap_or(0));
             }
         }
         reach
@@ -137,7 +123,7 @@ impl Plain {
         let mut next = None;
         let mut most = 0;
         let mut least = 0;
-        for node in 0..self.nodes() {
+        for node in 0..self.graph.nodes {
             let size = self.size(node, landmarks, limits);
             let reach = self.reach(node, limits);
             let is_better = next.is_none() || size > most || (size == most && reach < least);
@@ -152,10 +138,10 @@ impl Plain {
 
     // The node of the best word that isn't taken: of those with the most neighbours, or of those whose word is below a bound.
     fn next_to_start(&self, words: &[u64], taken: &[u16], start: Start) -> Option<u16> {
-        let root = root_above(self.nodes() as u64);
+        let root = root_above(self.graph.nodes as u64);
         let mut next = None;
         let mut best: (u64, u64) = (0, 0);
-        for node in 0..self.nodes() {
+        for node in 0..self.graph.nodes {
             let word = words.get(node as usize).copied().unwrap_or(u64::MAX);
             let degree = self.degrees.get(node as usize).copied().unwrap_or(0);
             let rank = match start {
@@ -165,7 +151,7 @@ impl Plain {
             let is_asked = match start {
                 Start::None => false,
                 Start::Draw => word < u64::MAX / root.max(1),
-                Start::Degree => taken.len() < self.nodes().isqrt() as usize,
+                Start::Degree => taken.len() < self.graph.nodes.isqrt() as usize,
             };
             if is_asked && !taken.contains(&node) && (next.is_none() || rank > best) {
                 next = Some(node);
@@ -193,7 +179,7 @@ impl Plain {
         let mut kept = landmarks.len();
         while_more(self, &mut landmarks, limits, &mut best, &mut kept)?;
         let mut chosen = Vec::new(alloc);
-        for node in 0..self.nodes() {
+        for node in 0..self.graph.nodes {
             let mut first = landmarks.iter().take(kept);
             if first.any(|landmark| *landmark == node) {
                 chosen.push(node)?;
@@ -210,7 +196,7 @@ fn while_more(
     best: &mut Measure,
     kept: &mut usize,
 ) -> Result<(), AllocError> {
-    for _ in 0..plain.nodes() {
+    for _ in 0..plain.graph.nodes {
         let is_kept = best.unknown == 0 && best.greatest <= limits.most_entries as u64;
         if is_kept || landmarks.len() >= limits.most as usize {
             return Ok(());

@@ -6,7 +6,7 @@ use schemes::{Address, Home, Packet};
 use std::alloc::Global;
 use std::process::Abort;
 
-/// The value of an answer that has to have one.
+// The value of an answer that has to have one.
 pub(crate) fn got<T, E: Drop>(rt: &impl Abort, answer: Result<T, E>) -> T {
     match answer {
         Ok(value) => value,

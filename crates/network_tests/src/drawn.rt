@@ -1,5 +1,5 @@
 // Drawn networks: written in each form, read, imported, and compared with the test's own list.
-use crate::helpers::{BY_WORDS, Came, added, got, new_store, told};
+use crate::helpers::{BY_WORDS, Came, added, edge, got, new_store, told};
 use checkpoint::Store;
 use disk_trait::MemDisk;
 use edge_lists::{
@@ -22,15 +22,7 @@ fn drawn(rt: &impl Abort, alloc: Global, seed: u64) -> Vec<Edge> {
             let word = words.next_word();
             if a < b && word % 4 == 0 {
                 let weight = ((word / 4) % 1_000_000) as u32 + 1;
-                got(
-                    rt,
-                    edges.push(Edge {
-                        line: 0,
-                        a,
-                        b,
-                        weight,
-                    }),
-                );
+                got(rt, edges.push(edge(0, a, b, weight)));
             }
         }
     }
@@ -40,14 +32,13 @@ fn drawn(rt: &impl Abort, alloc: Global, seed: u64) -> Vec<Edge> {
 // The edges in another order, each end first as often as the other.
 fn turned(rt: &impl Abort, alloc: Global, edges: &[Edge]) -> Vec<Edge> {
     let mut others = Vec::new(alloc);
-    for edge in edges.iter().rev() {
-        let (a, b) = if edge.weight % 2 == 0 {
-            (edge.b, edge.a)
+    for one in edges.iter().rev() {
+        let (a, b) = if one.weight % 2 == 0 {
+            (one.b, one.a)
         } else {
-            (edge.a, edge.b)
+            (one.a, one.b)
         };
-        let (line, weight) = (0, edge.weight);
-        got(rt, others.push(Edge { line, a, b, weight }));
+        got(rt, others.push(edge(0, a, b, one.weight)));
     }
     others
 }
@@ -68,8 +59,7 @@ fn edges_of(rt: &impl Abort, alloc: Global, store: &Store<MemDisk>) -> Vec<Edge>
     for a in 0..store.nodes() {
         for (b, weight) in store.graph().neighbours(a) {
             if a < *b {
-                let (line, b, weight) = (0, *b, *weight);
-                got(rt, out.push(Edge { line, a, b, weight }));
+                got(rt, out.push(edge(0, a, *b, *weight)));
             }
         }
     }

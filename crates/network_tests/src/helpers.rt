@@ -9,16 +9,16 @@ use network_import::{Incoming, Progress, incoming_edges};
 use std::alloc::Global;
 use std::process::Abort;
 
-/// Edge lists with a header that is known by its words.
-pub(crate) const BY_WORDS: Writing = Writing::Edges(Heading::ByWords, None);
-
-/// The value of an answer that has to have one.
+// The value of an answer that has to have one.
 pub(crate) fn got<T, E: Drop>(rt: &impl Abort, answer: Result<T, E>) -> T {
     match answer {
         Ok(value) => value,
         Err(_) => panic!(rt; "no value"),
     }
 }
+
+/// Edge lists with a header that is known by its words.
+pub(crate) const BY_WORDS: Writing = Writing::Edges(Heading::ByWords, None);
 
 /// The lines of edges between numbered nodes.
 pub(crate) fn told(rt: &impl Abort, alloc: Global, edges: &[Edge]) -> String {
@@ -63,19 +63,19 @@ pub(crate) fn added(
     got(rt, incoming_edges(alloc, store.graph(), false, edges))
 }
 
+/// An edge that a line says.
+pub(crate) fn edge(line: usize, a: u16, b: u16, weight: u32) -> Edge {
+    Edge { line, a, b, weight }
+}
+
 /// So many edges between 200 nodes: each joins its node to one that is a little further.
 pub(crate) fn edges_between(rt: &impl Abort, alloc: Global, count: u16) -> Vec<Edge> {
     let mut edges = Vec::new(alloc);
     for i in 0..count {
         let a = i % 200;
         let further = 1 + i / 200;
-        let edge = Edge {
-            line: i as usize,
-            a,
-            b: ((a as u32 + further as u32) % 200) as u16,
-            weight: i as u32 + 1,
-        };
-        got(rt, edges.push(edge));
+        let b = ((a as u32 + further as u32) % 200) as u16;
+        got(rt, edges.push(edge(i as usize, a, b, i as u32 + 1)));
     }
     edges
 }

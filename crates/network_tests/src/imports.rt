@@ -1,5 +1,5 @@
 // Imports of a list of 2,000 edges: two groups, of 64 changes and of 61.
-use crate::helpers::{Came, added, edges_between, got, has_up_to, new_store, opened};
+use crate::helpers::{Came, added, edge, edges_between, got, has_up_to, new_store, opened};
 use disk_trait::{CrashDisk, Plan};
 use edge_lists::Edge;
 use graph_edits::Code;
@@ -7,10 +7,12 @@ use network_import::{ImportRefused, import};
 use std::alloc::Global;
 use std::process::Abort;
 
+// They take eight calls of the device: the ninth would fail.
 #[test]
 fn all_edges_in_two_groups(rt: HostRuntime) {
     let edges = edges_between(&rt, rt.alloc(), 2000);
     let mut store = new_store(&rt, rt.alloc(), 200);
+    store.arm(Plan::Fail(9));
     let mut came = Came { edges: 0 };
     let all = added(&rt, rt.alloc(), &store, &edges);
     got(&rt, import(rt.alloc(), &mut store, &all, &mut came));
@@ -37,25 +39,16 @@ fn refused_in_the_second(rt: &impl Abort, alloc: Global, wrong: Edge, code: Code
     has_up_to(rt, &store, &right, 1024);
 }
 
-fn edge(a: u16, b: u16, weight: u32) -> Edge {
-    Edge {
-        line: 7,
-        a,
-        b,
-        weight,
-    }
-}
-
 #[test]
 fn an_op_that_is_refused_in_the_second_group(rt: HostRuntime) {
     let alloc = rt.alloc();
     // One of the first group, one of its own group before it, and the three that no list may have.
-    refused_in_the_second(&rt, alloc, edge(1, 0, 9), Code::EdgeThere);
-    refused_in_the_second(&rt, alloc, edge(0, 7, 9), Code::EdgeThere);
-    refused_in_the_second(&rt, alloc, edge(0, 200, 9), Code::NoNode);
-    refused_in_the_second(&rt, alloc, edge(5, 5, 9), Code::Loop);
-    refused_in_the_second(&rt, alloc, edge(0, 100, 0), Code::BadWeight);
-    refused_in_the_second(&rt, alloc, edge(0, 100, 1_000_001), Code::BadWeight);
+    refused_in_the_second(&rt, alloc, edge(7, 1, 0, 9), Code::EdgeThere);
+    refused_in_the_second(&rt, alloc, edge(7, 0, 7, 9), Code::EdgeThere);
+    refused_in_the_second(&rt, alloc, edge(7, 0, 200, 9), Code::NoNode);
+    refused_in_the_second(&rt, alloc, edge(7, 5, 5, 9), Code::Loop);
+    refused_in_the_second(&rt, alloc, edge(7, 0, 100, 0), Code::BadWeight);
+    refused_in_the_second(&rt, alloc, edge(7, 0, 100, 1_000_001), Code::BadWeight);
 }
 
 // A call of the device that fails, and how many edges there may be behind it: without its group, and with it.
@@ -93,15 +86,4 @@ fn each_call_of_the_device_fails_in_turn(rt: HostRuntime) {
             has_up_to(&rt, &again, &edges, found);
         }
     }
-}
-
-#[test]
-fn eight_calls_are_all(rt: HostRuntime) {
-    let edges = edges_between(&rt, rt.alloc(), 2000);
-    let mut store = new_store(&rt, rt.alloc(), 200);
-    store.arm(Plan::Fail(9));
-    let mut came = Came { edges: 0 };
-    let all = added(&rt, rt.alloc(), &store, &edges);
-    got(&rt, import(rt.alloc(), &mut store, &all, &mut came));
-    has_up_to(&rt, &store, &edges, 2000);
 }

@@ -4,7 +4,7 @@
 ghost use Rattle.std.specs.Prelude.{◌≡◌, false};
 ghost use Rattle.checkpoint.specs.StoreWords.{is_down};
 
-use crate::helpers::{BY_WORDS, Came, has_up_to, new_store};
+use crate::helpers::{BY_WORDS, Came, edge, has_up_to, new_store};
 use checkpoint::Store;
 use disk_trait::MemDisk;
 use edge_lists::{
@@ -15,41 +15,26 @@ use network_import::{ImportRefused, import, incoming_edges};
 use std::alloc::Global;
 use std::process::Abort;
 
-const EDGES: [Edge; 3] = [
-    Edge {
-        line: 1,
-        a: 0,
-        b: 1,
-        weight: 5,
-    },
-    Edge {
-        line: 2,
-        a: 1,
-        b: 2,
-        weight: 6,
-    },
-    Edge {
-        line: 3,
-        a: 2,
-        b: 0,
-        weight: 7,
-    },
-];
+// Three edges of three nodes.
+fn three() -> [Edge; 3] {
+    [edge(1, 0, 1, 5), edge(2, 1, 2, 6), edge(3, 2, 0, 7)]
+}
 
 // Imports the edges. A want of memory leaves none of them, and the import is made again.
 fn imported(rt: &impl Abort, alloc: Global, store: &mut Store<MemDisk>) -> Result<(), ImportRefused>
     requires { is_down store.old ≡ false }
 {
-    let edges = match incoming_edges(alloc, store.graph(), false, &EDGES) {
+    let three = three();
+    let edges = match incoming_edges(alloc, store.graph(), false, &three) {
         Ok(edges) => edges,
-        Err(_) => incoming_edges(alloc, store.graph(), false, &EDGES)?,
+        Err(_) => incoming_edges(alloc, store.graph(), false, &three)?,
     };
     let mut came = Came { edges: 0 };
     match import(alloc, store, &edges, &mut came) {
         Err(ImportRefused::Memory) => {}
         answer => return answer,
     }
-    has_up_to(rt, store, &EDGES, 0);
+    has_up_to(rt, store, &three, 0);
     import(alloc, store, &edges, &mut came)
 }
 
@@ -59,7 +44,7 @@ fn an_import_after_a_want_of_memory(rt: HostRuntime) {
     let mut store = new_store(&rt, alloc, 3);
     let answer = imported(&rt, alloc, &mut store);
     assert_eq!(rt; answer, Ok(()));
-    has_up_to(&rt, &store, &EDGES, 3);
+    has_up_to(&rt, &store, &three(), 3);
     assert_eq!(rt; store.count(), 1);
 }
 
@@ -116,22 +101,6 @@ fn rows_of(rt: &impl Abort, alloc: Global) -> Vec<Row> {
     }
 }
 
-// The edges of these rows, where the first names are `0` and `1`.
-const TAKEN: [Edge; 2] = [
-    Edge {
-        line: 1,
-        a: 1,
-        b: 2,
-        weight: 5,
-    },
-    Edge {
-        line: 3,
-        a: 3,
-        b: 0,
-        weight: 6,
-    },
-];
-
 // The names of a text.
 fn names_of<'a>(rt: &impl Abort, alloc: Global, text: &'a str) -> Names<'a> {
     let read = match Names::read(alloc, text, 4) {
@@ -162,7 +131,8 @@ fn names_after_a_want_of_memory(rt: HostRuntime) {
     let rows = rows_of(&rt, alloc);
     let mut names = names_of(&rt, alloc, "0\n1");
     let edges = taken(&rt, alloc, &mut names, &rows);
-    assert_eq!(rt; edges.as_slice(), TAKEN.as_slice());
+    let want = [edge(1, 1, 2, 5), edge(3, 3, 0, 6)];
+    assert_eq!(rt; edges.as_slice(), want.as_slice());
     let written = match names.written(alloc) {
         Ok(written) => Ok(written),
         Err(_) => names.written(alloc),

@@ -1,5 +1,5 @@
 // Edges and their names: what each refusal leaves of both, in a list of 2,000 edges.
-use crate::helpers::{Came, added, edges_between, has_up_to, new_store, opened};
+use crate::helpers::{Came, added, edge, edges_between, has_up_to, new_store, opened};
 use checkpoint::Store;
 use disk_trait::{CrashDisk, MemDisk, Plan};
 use edge_lists::Edge;
@@ -82,12 +82,7 @@ fn an_op_that_is_refused_changes_nothing(rt: HostRuntime) {
     let mut edges = edges_between(&rt, alloc, 2000);
     let code = Code::EdgeThere;
     assert!(rt; edges.len() > 1999);
-    edges[1999] = Edge {
-        line: 7,
-        a: 1,
-        b: 0,
-        weight: 9,
-    };
+    edges[1999] = edge(7, 1, 0, 9);
     let mut store = new_store(&rt, alloc, 200);
     let found = imported(&rt, alloc, &mut store, &edges, true, true);
     let refused = NamedRefused::Edges(ImportRefused::Op { place: 1999, code });

@@ -25,9 +25,12 @@ fn expect_all<R: Abort + Threads + Wait + Sync>(
     }
 }
 
-/// No edge at all: with no landmark, with one and with all.
+/// Two parts that don't reach each other: one has a landmark, and the other none.
+const PARTS: [Edge; 4] = [(0, 1, 3), (1, 2, 1), (3, 4, 2), (4, 5, 2)];
+
+/// No edge at all, with no landmark, with one and with all; paths of two to five nodes, under more workers than nodes; and two parts.
 #[test]
-fn builds_where_there_is_no_edge(rt: HostRuntime) {
+fn builds_of_hardly_anything(rt: HostRuntime) {
     let alloc = rt.alloc();
     let rt = &rt;
     for nodes in 1..7u16 {
@@ -35,13 +38,6 @@ fn builds_where_there_is_no_edge(rt: HostRuntime) {
         expect_all(rt, alloc, nodes, &[], &[0]);
         expect_all(rt, alloc, nodes, &[], &[0, 1, 2, 3, 4, 5]);
     }
-}
-
-/// Paths of two to five nodes under more workers than nodes.
-#[test]
-fn builds_with_more_workers_than_nodes(rt: HostRuntime) {
-    let alloc = rt.alloc();
-    let rt = &rt;
     let whole = PATH;
     for nodes in 2..6u16 {
         let path = &whole[..nodes as usize - 1];
@@ -49,15 +45,8 @@ fn builds_with_more_workers_than_nodes(rt: HostRuntime) {
         expect_all(rt, alloc, nodes, path, &[1]);
         expect_all(rt, alloc, nodes, path, &[0, 4]);
     }
-}
-
-/// Two parts that don't reach each other: one has a landmark, and the other none.
-#[test]
-fn builds_where_a_part_has_no_landmark(rt: HostRuntime) {
-    let alloc = rt.alloc();
-    let parts: [Edge; 4] = [(0, 1, 3), (1, 2, 1), (3, 4, 2), (4, 5, 2)];
-    expect_all(&rt, alloc, 6, &parts, &[1]);
-    expect_all(&rt, alloc, 6, &parts, &[5]);
+    expect_all(rt, alloc, 6, &PARTS, &[1]);
+    expect_all(rt, alloc, 6, &PARTS, &[5]);
 }
 
 #[test]

@@ -51,46 +51,38 @@ fn is_left_whole(rt: &impl Abort, alloc: Global, old: &mut MemDisk, plan: Plan, 
     }
 }
 
+const NONE: [bool; 5] = [false; 5];
+
+// What meets the new device, and by each word whether the whole is left. The gate of the slot comes last, and is the only byte then that
+// isn't settled: it is closed, but for a byte 1.
+const PLANS: [(Plan, [bool; 5]); 16] = [
+    (Plan::Fail(1), NONE),
+    (Plan::Fail(2), NONE),
+    (Plan::Fail(3), NONE),
+    (Plan::Fail(4), NONE),
+    (Plan::Fail(5), NONE),
+    (Plan::Fail(6), NONE),
+    (Plan::Fail(7), NONE),
+    (Plan::Fail(8), NONE),
+    (Plan::Fail(9), [false, false, false, false, true]),
+    (Plan::Fail(10), [false, true, false, false, true]),
+    (Plan::Stop(1, 1), NONE),
+    (Plan::Stop(3, 0), NONE),
+    (Plan::Stop(5, 9), NONE),
+    (Plan::Stop(7, 528_383), NONE),
+    (Plan::Stop(9, 0), [false, false, false, false, true]),
+    (Plan::Stop(9, 1), [false, true, false, false, true]),
+];
+
 #[test]
 fn leaves_nothing_or_the_whole_of_each_fault(rt: HostRuntime) {
     let alloc = rt.alloc();
     let rt = &rt;
     let mut old = path(rt, alloc);
-    // the gate of the slot comes last: what is unsettled becomes 1
-    for call in 1..=10 {
-        let left = is_left_whole(rt, alloc, &mut old, Plan::Fail(call), 257);
-        same(rt, (call, left), (call, call >= 9), "what is left");
-    }
-}
-
-const NONE: [bool; 5] = [false; 5];
-
-// A call, how many bytes of it are put, and by each word whether the whole is left. The gate of the slot is the only byte that isn't
-// settled: it is closed, but for a byte 1.
-const STOPS: [(u64, usize, [bool; 5]); 6] = [
-    (1, 1, NONE),
-    (3, 0, NONE),
-    (5, 9, NONE),
-    (7, 528_383, NONE),
-    (9, 0, [false, false, false, false, true]),
-    (9, 1, [false, true, false, false, true]),
-];
-
-#[test]
-fn leaves_nothing_or_the_whole_of_each_stop(rt: HostRuntime) {
-    let alloc = rt.alloc();
-    let rt = &rt;
-    let mut old = path(rt, alloc);
-    for (call, bytes, whole) in &STOPS {
-        let plan = Plan::Stop(*call, *bytes);
+    for (plan, whole) in &PLANS {
         for (word, want) in CRASH_WORDS.iter().zip(whole.iter()) {
-            let left = is_left_whole(rt, alloc, &mut old, plan, *word);
-            same(
-                rt,
-                (plan, *word, left),
-                (plan, *word, *want),
-                "what is left",
-            );
+            let left = is_left_whole(rt, alloc, &mut old, *plan, *word);
+            same(rt, (*plan, *word, left), (*plan, *word, *want), "left");
         }
     }
 }

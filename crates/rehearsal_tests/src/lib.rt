@@ -1,8 +1,8 @@
-//! Tests of rehearsals.
+//! Tests of rehearsals, and of trials with a device stopped.
 //!
-//! There is nothing here but tests, of what no command shows: what each kind of line is read as, replies that no rehearsal is answered, long
-//! files, want of memory, and drawn lives. Texts that are refused, and the lines of worked lives, are in `conformance/rehearse.txt`,
-//! `crashes.txt` and `rehearsed_examples.txt`.
+//! There is nothing here but tests: each kind of line read, long texts, lines that no rehearsal is answered, which stops calls have,
+//! tables of kinds, single trials counted by hand, and want of memory. Whole rehearsals, drawn ones and tables of all stops are in
+//! `conformance/rehearse.txt` and `crashes.txt`.
 #![tactic(auto)]
 
 #[cfg(test)]

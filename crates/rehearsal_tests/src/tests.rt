@@ -1,8 +1,9 @@
-// Texts that are read, and the lines of what they ask for.
+// What the tests share: texts that are read, and what they ask for. Each call is made again where memory was refused.
 ghost use Rattle.rehearsal_lines.specs.Grammar.{IsRehearsal};
 
 use checkpoint::OpenRefused;
-use disk_trait::Plan;
+use device_stops::{Call, Kind, KindCount, Stop, Watched, count_stops, stops_of, table_of};
+use disk_trait::{CrashDisk, Disk, MemDisk, Plan};
 use event_runs::Reply;
 use forwarders::Refused as RouteRefused;
 use graph_edits::{Change, Op};
@@ -10,15 +11,18 @@ use group_commit::DeskRefused;
 use intake::SubmitRefused;
 use rehearsal_lines::{Form, LifeLine, LineRefused, RehearsalLine, read_rehearsal};
 use rehearsals::{NotOpenedLine, Rehearsal, RehearseRefused, ReplyLine, lives_of, rehearse};
-use std::alloc::Global;
+use std::alloc::{AllocError, Global};
 use std::fmt::Debug;
 use std::process::Abort;
+use stop_trials::{StopFound, calls_of_last, try_every_stop, try_stop, try_stops};
 use written_values::LandmarkWords;
 
+mod counting;
 mod drawn;
 mod memory;
 mod reading;
 mod told;
+mod trying;
 
 // The value of an answer that has to have one.
 fn got<T, E: Drop>(rt: &impl Abort, answer: Result<T, E>) -> T {
@@ -37,18 +41,23 @@ fn same<T: Copy + PartialEq + Debug>(rt: &impl Abort, found: T, want: T, name: &
 fn read(rt: &impl Abort, alloc: Global, text: &str) -> Vec<RehearsalLine>
     ensures { IsRehearsal result.items }
 {
+    if let Ok(Ok(lines)) = read_rehearsal(alloc, text) {
+        return lines;
+    }
     match read_rehearsal(alloc, text) {
         Ok(Ok(lines)) => lines,
-        Ok(Err(refused)) => panic!(rt; "{refused}"),
-        Err(_) => panic!(rt; "no memory"),
+        _ => panic!(rt; "no rehearsal: {text}"),
     }
 }
 
-// What a text asks for.
+// The rehearsal that a text asks for.
 fn asked(rt: &impl Abort, alloc: Global, text: &str) -> Rehearsal {
+    if let Ok(Some(rehearsal)) = lives_of(alloc, read(rt, alloc, text)) {
+        return rehearsal;
+    }
     match lives_of(alloc, read(rt, alloc, text)) {
         Ok(Some(rehearsal)) => rehearsal,
-        _ => panic!(rt; "nothing is asked for"),
+        _ => panic!(rt; "nothing is asked for: {text}"),
     }
 }
 
@@ -56,4 +65,19 @@ fn asked(rt: &impl Abort, alloc: Global, text: &str) -> Rehearsal {
 fn tells(rt: &impl Abort, alloc: Global, text: &str, want: &str) {
     let printed = got(rt, rehearse(alloc, &asked(rt, alloc, text)));
     same(rt, printed.as_str(), want, text);
+}
+
+const ONE_CHANGE: &str = "device 5
+life sessions=1 places=4 words=none crash=1
+submit 0 1 add:0:1:1
+take
+commit
+";
+
+const fn kind(found: u64, acknowledged: u64, opened: u64) -> Kind {
+    Kind {
+        found,
+        acknowledged,
+        opened,
+    }
 }

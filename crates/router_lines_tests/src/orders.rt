@@ -51,10 +51,8 @@ fn expect_hop(rt: &impl Abort, alloc: Global, shelf: &Shelf, generation: u64, ke
     let sent = packet(rt, alloc, generation, neighbour, 7);
     let left = packet(rt, alloc, generation, neighbour, 6);
     let line = got(rt, format!(in alloc; "hop {sent}"));
-    let goes = got(
-        rt,
-        format!(in alloc; "port=0 next={neighbour} packet={left}"),
-    );
+    let goes = format!(in alloc; "port=0 next={neighbour} packet={left}");
+    let goes = got(rt, goes);
     let want = if kept.is_some() {
         goes.as_str()
     } else {

@@ -1,18 +1,12 @@
 // Tables of which a byte is changed, that are cut, that go on behind their end, or that are drawn: each is refused by its own name, or
 // is written as it was read.
-use crate::helpers::{RING, bytes_at, got, is_written_so, refusal_of, same, scheme_at};
+use crate::helpers::{got, is_written_so, refusal_of, ring_files, same};
 use rand_core::{Rng, SeedableRng};
 use rand_xoshiro::Xoshiro256PlusPlus;
 use router_table::ReadRefused;
 use sha2::{Digest, Sha256};
 use std::alloc::Global;
 use std::process::Abort;
-
-/// The bytes of a table of a ring of nine nodes.
-fn ring_bytes(rt: &impl Abort, alloc: Global, node: u16) -> Vec<u8> {
-    let scheme = scheme_at(rt, alloc, 9, &RING, &[2, 6]);
-    bytes_at(rt, alloc, &scheme, node)
-}
 
 /// A number of two bytes.
 fn number_at(bytes: &[u8], at: usize) -> Option<u16> {
@@ -76,7 +70,7 @@ fn expect_refused_changed(rt: &impl Abort, alloc: Global, bytes: &mut [u8], chan
     for at in 0..bytes.len() {
         bytes[at] ^= change;
         let want = Some(wrong_at(bytes, at));
-        same(rt, refusal_of(alloc, bytes), want, "a changed byte");
+        same(rt, refusal_of(rt, alloc, bytes), want, "a changed byte");
         bytes[at] ^= change;
     }
 }
@@ -85,12 +79,12 @@ fn expect_refused_changed(rt: &impl Abort, alloc: Global, bytes: &mut [u8], chan
 fn refuses_each_byte_changed(rt: HostRuntime) {
     let alloc = rt.alloc();
     let rt = &rt;
-    for node in 0..9u16 {
-        let mut bytes = ring_bytes(rt, alloc, node);
+    for mut bytes in ring_files(rt, alloc) {
         expect_refused_changed(rt, alloc, bytes.as_mut_slice(), 1);
         expect_refused_changed(rt, alloc, bytes.as_mut_slice(), 128);
         expect_refused_changed(rt, alloc, bytes.as_mut_slice(), 255);
-        same(rt, refusal_of(alloc, bytes.as_slice()), None, "as it was");
+        let found = refusal_of(rt, alloc, bytes.as_slice());
+        same(rt, found, None, "as it was");
     }
 }
 
@@ -107,7 +101,7 @@ fn wrong_cut(length: usize) -> ReadRefused {
 fn expect_refused_cut(rt: &impl Abort, alloc: Global, bytes: &[u8]) {
     for length in 0..bytes.len() {
         let want = Some(wrong_cut(length));
-        same(rt, refusal_of(alloc, &bytes[..length]), want, "a cut");
+        same(rt, refusal_of(rt, alloc, &bytes[..length]), want, "a cut");
     }
 }
 
@@ -115,12 +109,12 @@ fn expect_refused_cut(rt: &impl Abort, alloc: Global, bytes: &[u8]) {
 fn refuses_each_length_cut(rt: HostRuntime) {
     let alloc = rt.alloc();
     let rt = &rt;
-    for node in 0..9u16 {
-        let mut bytes = ring_bytes(rt, alloc, node);
+    for mut bytes in ring_files(rt, alloc) {
         expect_refused_cut(rt, alloc, bytes.as_slice());
         got(rt, bytes.push(0));
         let want = Some(ReadRefused::TooLong);
-        same(rt, refusal_of(alloc, bytes.as_slice()), want, "a byte more");
+        let found = refusal_of(rt, alloc, bytes.as_slice());
+        same(rt, found, want, "a byte more");
     }
 }
 
@@ -156,12 +150,44 @@ fn refuses_drawn_bytes(rt: HostRuntime) {
         let length = (rng.next_u64() % 200) as usize;
         let bytes = drawn_bytes(&rt, alloc, &mut rng, length);
         let want = Some(wrong_inside(bytes.as_slice()));
-        same(&rt, refusal_of(alloc, bytes.as_slice()), want, "drawn");
+        same(&rt, refusal_of(&rt, alloc, bytes.as_slice()), want, "drawn");
     }
 }
 
-/// Draws a byte of a table anew and mends its digest. Answers whether it is read: then it is written as it was, and else it is refused
-/// by its size or its order.
+/// Mends the digest of a table whose byte at this place may be another one. Answers whether it is read: then it is written as it is, and
+/// else it is refused by its front, its size or its order.
+fn is_read_mended(rt: &impl Abort, alloc: Global, bytes: &mut [u8], at: usize) -> bool {
+    mend(bytes);
+    match refusal_of(rt, alloc, bytes) {
+        None => {
+            assert!(rt; is_written_so(rt, alloc, bytes), "written otherwise");
+            true
+        }
+        Some(refused) => {
+            let want = match wrong_at(bytes, at) {
+                ReadRefused::Damaged => ReadRefused::NotInOrder,
+                other => other,
+            };
+            same(rt, refused, want, "a mended table");
+            false
+        }
+    }
+}
+
+/// Changes each byte before the digest, one after the other: how many of these tables are read.
+fn read_of_changed(rt: &impl Abort, alloc: Global, bytes: &mut [u8], change: u8) -> u32 {
+    let mut read = 0u32;
+    for at in 0..bytes.len().saturating_sub(32) {
+        bytes[at] ^= change;
+        if is_read_mended(rt, alloc, bytes, at) {
+            read = read.saturating_add(1);
+        }
+        bytes[at] ^= change;
+    }
+    read
+}
+
+/// Draws a byte of a table anew: whether it is read.
 fn is_read_drawn(
     rt: &impl Abort,
     alloc: Global,
@@ -173,21 +199,7 @@ fn is_read_drawn(
     }
     let at = 8 + (rng.next_u64() % (bytes.len() as u64 - 40)) as usize;
     bytes[at] = (rng.next_u64() % 256) as u8;
-    mend(bytes);
-    match refusal_of(alloc, bytes) {
-        None => {
-            assert!(rt; is_written_so(rt, alloc, bytes), "written otherwise");
-            true
-        }
-        Some(refused) => {
-            let want = match wrong_inside(bytes) {
-                ReadRefused::Damaged => ReadRefused::NotInOrder,
-                size => size,
-            };
-            same(rt, refused, want, "a mended table");
-            false
-        }
-    }
+    is_read_mended(rt, alloc, bytes, at)
 }
 
 /// How many of 300 tables with one byte drawn anew are read.
@@ -207,15 +219,20 @@ fn read_of_drawn(
     read
 }
 
+/// With a digest of their own most changed tables are out of order, and some are other tables.
 #[test]
-fn writes_what_it_reads_of_drawn_tables(rt: HostRuntime) {
+fn writes_what_it_reads_of_mended_tables(rt: HostRuntime) {
     let alloc = rt.alloc();
     let rt = &rt;
     let mut rng = Xoshiro256PlusPlus::seed_from_u64(51);
-    let mut read = 0u32;
-    for node in 0..9u16 {
-        let bytes = ring_bytes(rt, alloc, node);
-        read = read.saturating_add(read_of_drawn(rt, alloc, &mut rng, bytes.as_slice()));
+    let (mut changed, mut drawn) = (0u32, 0u32);
+    for mut bytes in ring_files(rt, alloc) {
+        drawn = drawn.saturating_add(read_of_drawn(rt, alloc, &mut rng, bytes.as_slice()));
+        for change in [1u8, 128] {
+            let read = read_of_changed(rt, alloc, bytes.as_mut_slice(), change);
+            changed = changed.saturating_add(read);
+        }
     }
-    assert!(rt; 0 < read && read < 2700);
+    assert!(rt; 0 < changed);
+    assert!(rt; 0 < drawn && drawn < 2700);
 }

@@ -1,5 +1,5 @@
 // Drawn networks: packets that go from table to table, for all pairs, against the trail over which the scheme carries them.
-use crate::helpers::{Edge, got, same, scheme_at, tables_of};
+use crate::helpers::{Edge, files_of, got, same, scheme_at, tables_of};
 use rand_core::{Rng, SeedableRng};
 use rand_xoshiro::Xoshiro256PlusPlus;
 use router_table::RouterTable;
@@ -111,7 +111,8 @@ fn are_apart(
 /// Compares all pairs of a network under these landmarks. Answers how many are apart.
 fn compare(rt: &impl Abort, alloc: Global, nodes: u16, edges: &[Edge], at: &[u16]) -> u32 {
     let scheme = scheme_at(rt, alloc, nodes, edges, at);
-    let tables = tables_of(rt, alloc, &scheme);
+    let files = files_of(rt, alloc, &scheme);
+    let tables = tables_of(rt, alloc, files.as_slice());
     let mut apart = 0u32;
     for from in 0..nodes {
         for to in 0..nodes {

@@ -7,11 +7,9 @@ use schemes::Scheme;
 use std::alloc::Global;
 use std::fmt::Debug;
 use std::process::Abort;
+use table_view::TableView;
 
-/// The generation of all schemes here.
-const GENERATION: u64 = 7;
-
-/// The value of an answer that has to have one.
+// The value of an answer that has to have one.
 pub(crate) fn got<T, E: Drop>(rt: &impl Abort, answer: Result<T, E>) -> T {
     match answer {
         Ok(value) => value,
@@ -19,17 +17,26 @@ pub(crate) fn got<T, E: Drop>(rt: &impl Abort, answer: Result<T, E>) -> T {
     }
 }
 
-/// Sees that two values are the same.
+// Sees that two values are the same.
 pub(crate) fn same<T: Copy + PartialEq + Debug>(rt: &impl Abort, found: T, want: T, name: &str) {
     assert_eq!(rt; found, want, "{name}");
 }
 
-/// Why bytes are no table, where they are none.
-pub(crate) fn refusal_of(alloc: Global, bytes: &[u8]) -> Option<ReadRefused> {
-    match RouterTable::read(alloc, bytes) {
+/// The generation of all schemes here.
+const GENERATION: u64 = 7;
+
+/// Why bytes are no table, where they are none: a view says the same.
+pub(crate) fn refusal_of(rt: &impl Abort, alloc: Global, bytes: &[u8]) -> Option<ReadRefused> {
+    let by_table = match RouterTable::read(alloc, bytes) {
         Ok(_) => None,
         Err(refused) => Some(refused),
-    }
+    };
+    let by_view = match TableView::read(bytes) {
+        Ok(_) => None,
+        Err(refused) => Some(refused),
+    };
+    same(rt, by_view, by_table, "a refusal by view");
+    by_table
 }
 
 /// Whether bytes are read as a table that is written as they are.
@@ -55,23 +62,28 @@ pub(crate) fn scheme_at(
     }
 }
 
-/// The table of a node, written.
-pub(crate) fn bytes_at(rt: &impl Abort, alloc: Global, scheme: &Scheme, node: u16) -> Vec<u8> {
-    let table = got(rt, RouterTable::of(alloc, scheme, node));
-    got(rt, table.write(alloc))
-}
-
-/// The table of a node, written and read again.
-fn table_at(rt: &impl Abort, alloc: Global, scheme: &Scheme, node: u16) -> RouterTable {
-    let bytes = bytes_at(rt, alloc, scheme, node);
-    got(rt, RouterTable::read(alloc, bytes.as_slice()))
-}
-
-/// The tables of all nodes, each written and read again.
-pub(crate) fn tables_of(rt: &impl Abort, alloc: Global, scheme: &Scheme) -> Vec<RouterTable> {
-    let mut tables = Vec::new(alloc);
+/// The tables of all nodes, written.
+pub(crate) fn files_of(rt: &impl Abort, alloc: Global, scheme: &Scheme) -> Vec<Vec<u8>> {
+    let mut files = Vec::new(alloc);
     for node in 0..scheme.parts().nodes {
-        got(rt, tables.push(table_at(rt, alloc, scheme, node)));
+        let table = got(rt, RouterTable::of(alloc, scheme, node));
+        let bytes = got(rt, table.write(alloc));
+        got(rt, files.push(bytes));
+    }
+    files
+}
+
+/// The tables of a ring of nine nodes, written.
+pub(crate) fn ring_files(rt: &impl Abort, alloc: Global) -> Vec<Vec<u8>> {
+    files_of(rt, alloc, &scheme_at(rt, alloc, 9, &RING, &[2, 6]))
+}
+
+/// The tables of files.
+pub(crate) fn tables_of(rt: &impl Abort, alloc: Global, files: &[Vec<u8>]) -> Vec<RouterTable> {
+    let mut tables = Vec::new(alloc);
+    for file in files {
+        let table = got(rt, RouterTable::read(alloc, file.as_slice()));
+        got(rt, tables.push(table));
     }
     tables
 }

@@ -1,7 +1,9 @@
-//! Tests of routers' tables.
+//! Tests of routers' tables, and of views of them.
 //!
 //! There is nothing here but tests: a table written out by hand; drawn networks, in which packets go from table to table for all pairs
-//! and are compared with `carry` of the scheme; tables with a byte changed, cut, or drawn; and each refusal of memory.
+//! and are compared with `carry` of the scheme; tables with a byte changed, with a digest of their own or the old one, cut, or drawn; and
+//! each refusal of memory. The judge of a view is `RouterTable`, which reads the same bytes into memory: every table of the sample
+//! networks and of drawn ones, and every packet, by value and in bytes; and bytes that nobody tested.
 #![tactic(auto)]
 
 #[cfg(test)]
@@ -12,5 +14,9 @@ mod drawn;
 mod helpers;
 #[cfg(test)]
 mod memory;
+#[cfg(test)]
+mod untested;
+#[cfg(test)]
+mod views;
 #[cfg(test)]
 mod worked;

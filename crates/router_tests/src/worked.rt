@@ -52,7 +52,7 @@ fn reads_only_what_is_in_order_behind_a_mended_digest(rt: HostRuntime) {
         let mut other = BYTES;
         other[at] ^= 128;
         mend(&mut other);
-        let found = refusal_of(alloc, &other);
+        let found = refusal_of(rt, alloc, &other);
         same(rt, found, wrong_by_half(at), "by half");
         assert!(rt; found.is_some() || is_written_so(rt, alloc, &other));
     }

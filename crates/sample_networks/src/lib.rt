@@ -5,8 +5,8 @@
 //! A test writes a network down as a table of [`Edge`]s, and names its landmarks. [`graph_of`] makes the network of a table. [`words_at`]
 //! are the landmark words that choose the named nodes and no others, and [`landmarks_at`] is that choice. [`PATH`], [`TRIANGLE`],
 //! [`PAIRS`] and [`RING`] are tables that several tests work with. [`drawn_edges`] and [`drawn_nodes`] draw a table and the nodes of a
-//! choice from a generator with a seed. A [`Way`] is a row of a test: a network, and a way in it. [`plain_distances`] is a slow count of
-//! distances, against which tests hold others; no contract speaks of it.
+//! choice from a generator with a seed. A [`PlainGraph`] is a network by plain counts, against which tests hold weights, ports and
+//! distances; no contract speaks of it.
 //!
 //! # The contract
 //!
@@ -32,11 +32,9 @@ mod named;
 mod plain;
 mod samples;
 mod tables;
-mod ways;
 
 pub use drawn::{Odds, drawn_edges, drawn_nodes};
 pub use named::{landmarks_at, words_at};
-pub use plain::plain_distances;
+pub use plain::PlainGraph;
 pub use samples::{PAIRS, PATH, RING, TRIANGLE};
 pub use tables::{Edge, TableRefused, graph_of};
-pub use ways::{Way, ends_of};

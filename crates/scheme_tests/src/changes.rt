@@ -108,10 +108,8 @@ fn drawn_place<T>(rng: &mut Xoshiro256PlusPlus, lists: &[Vec<T>]) -> Option<(usi
 
 /// Takes out what stands at a drawn place.
 fn take_out<T: Drop>(rng: &mut Xoshiro256PlusPlus, lists: &mut Vec<Vec<T>>) {
-    let Some((x, at)) = drawn_place(rng, lists) else {
-        return;
-    };
-    if let Some(list) = lists.get_mut(x)
+    if let Some((x, at)) = drawn_place(rng, lists)
+        && let Some(list) = lists.get_mut(x)
         && at < list.len()
     {
         let _out = list.remove(at);
@@ -119,10 +117,8 @@ fn take_out<T: Drop>(rng: &mut Xoshiro256PlusPlus, lists: &mut Vec<Vec<T>>) {
 }
 
 fn double_entry(rng: &mut Xoshiro256PlusPlus, parts: &mut Parts) -> Result<(), AllocError> {
-    let Some((x, at)) = drawn_place(rng, &parts.entries) else {
-        return Ok(());
-    };
-    if let Some(list) = parts.entries.get_mut(x)
+    if let Some((x, at)) = drawn_place(rng, &parts.entries)
+        && let Some(list) = parts.entries.get_mut(x)
         && at < list.len()
     {
         let again = list[at];
@@ -132,10 +128,8 @@ fn double_entry(rng: &mut Xoshiro256PlusPlus, parts: &mut Parts) -> Result<(), A
 }
 
 fn double_listed(rng: &mut Xoshiro256PlusPlus, parts: &mut Parts) -> Result<(), AllocError> {
-    let Some((u, at)) = drawn_place(rng, &parts.directories) else {
-        return Ok(());
-    };
-    if let Some(list) = parts.directories.get_mut(u)
+    if let Some((u, at)) = drawn_place(rng, &parts.directories)
+        && let Some(list) = parts.directories.get_mut(u)
         && at < list.len()
     {
         let again = copied_listed(&list[at]);
@@ -182,13 +176,10 @@ fn some_distance(rng: &mut Xoshiro256PlusPlus, old: u64) -> u64 {
 
 fn change_entry(rng: &mut Xoshiro256PlusPlus, parts: &mut Parts, part: Part) {
     let nodes = parts.nodes;
-    let Some((x, at)) = drawn_place(rng, &parts.entries) else {
-        return;
-    };
-    let Some(list) = parts.entries.get_mut(x) else {
-        return;
-    };
-    if let Some(entry) = list.get_mut(at) {
+    if let Some((x, at)) = drawn_place(rng, &parts.entries)
+        && let Some(list) = parts.entries.get_mut(x)
+        && let Some(entry) = list.get_mut(at)
+    {
         *entry = changed_entry(rng, *entry, nodes, part);
     }
 }
@@ -245,13 +236,10 @@ fn changed_record(rng: &mut Xoshiro256PlusPlus, old: Record, nodes: u16) -> Reco
 
 fn change_port(rng: &mut Xoshiro256PlusPlus, parts: &mut Parts) {
     let nodes = parts.nodes;
-    let Some((x, at)) = drawn_place(rng, &parts.ports) else {
-        return;
-    };
-    let Some(list) = parts.ports.get_mut(x) else {
-        return;
-    };
-    if let Some(port) = list.get_mut(at) {
+    if let Some((x, at)) = drawn_place(rng, &parts.ports)
+        && let Some(list) = parts.ports.get_mut(x)
+        && let Some(port) = list.get_mut(at)
+    {
         *port = some_node(rng, nodes);
     }
 }
@@ -325,13 +313,10 @@ fn changed_label(rng: &mut Xoshiro256PlusPlus, old: &Label, nodes: u16) -> Label
 
 fn change_listed(rng: &mut Xoshiro256PlusPlus, parts: &mut Parts) {
     let nodes = parts.nodes;
-    let Some((u, at)) = drawn_place(rng, &parts.directories) else {
-        return;
-    };
-    let Some(list) = parts.directories.get_mut(u) else {
-        return;
-    };
-    if let Some(listed) = list.get_mut(at) {
+    if let Some((u, at)) = drawn_place(rng, &parts.directories)
+        && let Some(list) = parts.directories.get_mut(u)
+        && let Some(listed) = list.get_mut(at)
+    {
         listed.label = changed_label(rng, &listed.label, nodes);
     }
 }

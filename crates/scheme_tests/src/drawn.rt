@@ -1,12 +1,12 @@
 // Drawn graphs with drawn landmarks.
-use crate::plain_graph::{Edge, PlainGraph};
 use graph_edits::Graph;
 use rand_core::Rng;
 use rand_xoshiro::Xoshiro256PlusPlus;
+use sample_networks::{PlainGraph, drawn_edges, drawn_nodes, words_at};
 use std::alloc::{AllocError, Global};
 use std::process::Abort;
 
-/// The value of an answer that has to have one.
+// The value of an answer that has to have one.
 pub(crate) fn got<T, E: Drop>(rt: &impl Abort, answer: Result<T, E>) -> T {
     match answer {
         Ok(value) => value,
@@ -31,31 +31,17 @@ pub(crate) fn drawn_graph(
     rng: &mut Xoshiro256PlusPlus,
     most: u64,
 ) -> Result<PlainGraph, AllocError> {
-    let nodes = 2
-        + rng
-            .next_u64()
-            .checked_rem(most.saturating_sub(1))
-            .unwrap_or(0)
-            % 64;
+    let word = rng.next_u64();
+    let nodes = 2 + (word.checked_rem(most.saturating_sub(1)).unwrap_or(0) % 64) as u16;
     let chance = rng.next_u64() % 10;
-    let mut edges: Vec<Edge> = Vec::new(alloc);
-    for a in 0..nodes as u16 {
-        for b in 0..a {
-            let weight = 1 + (rng.next_u64() % 6) as u32;
-            if rng.next_u64() % 10 < chance {
-                edges.push((b, a, weight))?;
-            }
-        }
-    }
-    PlainGraph::new(alloc, nodes as u16, edges)
+    let edges = drawn_edges(alloc, rng, nodes, 6, (chance, 10))?;
+    PlainGraph::new(alloc, nodes, &edges)
 }
 
 /// The same graph, made by edits.
 pub(crate) fn graph_of(rt: &impl Abort, alloc: Global, plain: &PlainGraph) -> Graph {
-    got(
-        rt,
-        sample_networks::graph_of(alloc, plain.nodes, &plain.edges),
-    )
+    let answer = sample_networks::graph_of(alloc, plain.nodes, &plain.edges);
+    got(rt, answer)
 }
 
 /// Landmark words of so many nodes: of none, of all, or of each with a chance of one in three.
@@ -64,15 +50,10 @@ pub(crate) fn landmark_words(
     rng: &mut Xoshiro256PlusPlus,
     nodes: u16,
 ) -> Result<Vec<u64>, AllocError> {
-    let manner = rng.next_u64() % 8;
-    let mut words = Vec::new(alloc);
-    for _ in 0..nodes {
-        let chosen = match manner {
-            0 => false,
-            1 => true,
-            _ => rng.next_u64() % 3 == 0,
-        };
-        words.push(if chosen { 0u64 } else { u64::MAX })?;
-    }
-    Ok(words)
+    let at: Vec<u16> = match rng.next_u64() % 8 {
+        0 => Vec::new(alloc),
+        1 => (0..nodes).collect(alloc)?,
+        _ => drawn_nodes(alloc, rng, nodes, (1, 3))?,
+    };
+    words_at(alloc, nodes, &at)
 }

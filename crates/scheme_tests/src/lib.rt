@@ -15,8 +15,6 @@ mod changes;
 #[cfg(test)]
 mod drawn;
 #[cfg(test)]
-mod plain_graph;
-#[cfg(test)]
 mod plain_tree;
 #[cfg(test)]
 mod second_checker;

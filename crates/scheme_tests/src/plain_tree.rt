@@ -1,7 +1,7 @@
 // The tree of a root, made as the parents give it.
-use crate::plain_graph::PlainGraph;
 use crate::tables::entry;
 use heavy_labels::{Label, Record};
+use sample_networks::PlainGraph;
 use schemes::Parts;
 use std::alloc::{AllocError, Global};
 

@@ -1,9 +1,9 @@
 // The second checker: the eight rules, one after the other, over all lists.
-use crate::plain_graph::PlainGraph;
 use crate::plain_tree::PlainTree;
 use crate::tables::{directory, do_ascend, entries, entry, home, is_landmark, nearest, ports};
 use certificate::Fault;
 use heavy_labels::Label;
+use sample_networks::PlainGraph;
 use schemes::{Entry, Near, Parts};
 use std::alloc::{AllocError, Global};
 

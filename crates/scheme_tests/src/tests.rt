@@ -1,12 +1,12 @@
 // Both checkers, over drawn graphs and drawn changes.
 use crate::changes::{PARTS, change, copied};
 use crate::drawn::{below, drawn_graph, graph_of, landmark_words};
-use crate::plain_graph::PlainGraph;
 use crate::second_checker::first_fault;
 use certificate::{Fault, check, check_in_threads};
 use graph_edits::Graph;
 use rand_core::SeedableRng;
 use rand_xoshiro::Xoshiro256PlusPlus;
+use sample_networks::PlainGraph;
 use scheme_builds::scheme_of;
 use schemes::Scheme;
 use std::alloc::{AllocError, Global};

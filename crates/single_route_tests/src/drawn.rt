@@ -1,9 +1,9 @@
 // Drawn graphs: each route against the trail over which the built scheme carries the packet.
-use crate::helpers::{got, graph_of, landmarks_at, routed, routes_in, same, words_at};
+use crate::helpers::{got, graph_of, landmarks_at, routed, routes_in, same};
 use graph_edits::Graph;
 use rand_core::{Rng, SeedableRng};
 use rand_xoshiro::Xoshiro256PlusPlus;
-use sample_networks::{drawn_edges, drawn_nodes};
+use sample_networks::{drawn_edges, drawn_nodes, words_at};
 use scheme_builds::scheme_of;
 use schemes::{CarryRefused, Scheme, Trail};
 use single_route::NoTrail;
@@ -16,12 +16,7 @@ fn carried(rt: &impl Abort, alloc: Global, scheme: &Scheme, from: u16, to: u16) 
     match scheme.carry(alloc, from, &address) {
         Ok(trail) => Some(trail),
         Err(refused) => {
-            same(
-                rt,
-                refused,
-                CarryRefused::Unreachable,
-                "a refusal of a scheme",
-            );
+            same(rt, refused, CarryRefused::Unreachable, "no trail");
             None
         }
     }
@@ -40,12 +35,8 @@ fn trail_of(rt: &impl Abort, answer: Result<Trail, NoTrail>) -> Option<Trail> {
 
 /// Sees that two trails are the same, or that there is none twice.
 fn same_trail(rt: &impl Abort, found: &Option<Trail>, want: &Option<Trail>) {
-    same(
-        rt,
-        found.is_some(),
-        want.is_some(),
-        "whether there is a trail",
-    );
+    let here = found.is_some();
+    same(rt, here, want.is_some(), "whether there is a trail");
     if let (Some(found), Some(want)) = (found, want) {
         same(rt, found.nodes.as_slice(), want.nodes.as_slice(), "nodes");
         same(rt, found.ports.as_slice(), want.ports.as_slice(), "ports");
@@ -56,7 +47,7 @@ fn same_trail(rt: &impl Abort, found: &Option<Trail>, want: &Option<Trail>) {
 /// Compares all routes of a graph under these landmarks with those of its scheme. Answers how many pairs have none.
 fn compare(rt: &impl Abort, alloc: Global, graph: &Graph, at: &[u16]) -> u32 {
     let nodes = graph.nodes();
-    let words = words_at(rt, alloc, nodes, at);
+    let words = got(rt, words_at(alloc, nodes, at));
     let scheme = got(rt, scheme_of(alloc, graph, &words, 7, alloc));
     let landmarks = landmarks_at(rt, alloc, nodes, at);
     let mut routes = routes_in(rt, alloc, graph, &landmarks);
@@ -84,12 +75,8 @@ fn compare_drawn(rt: &impl Abort, alloc: Global, rng: &mut Xoshiro256PlusPlus) -
     let apart = compare(rt, alloc, &graph, &[]);
     let second = compare(rt, alloc, &graph, &some);
     let third = compare(rt, alloc, &graph, &all);
-    same(
-        rt,
-        (second, third),
-        (apart, apart),
-        "how many pairs are apart",
-    );
+    let found = (second, third);
+    same(rt, found, (apart, apart), "how many pairs are apart");
     apart
 }
 

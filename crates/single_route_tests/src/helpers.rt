@@ -8,7 +8,7 @@ use std::alloc::Global;
 use std::fmt::Debug;
 use std::process::Abort;
 
-/// The value of an answer that has to have one.
+// The value of an answer that has to have one.
 pub(crate) fn got<T, E: Drop>(rt: &impl Abort, answer: Result<T, E>) -> T {
     match answer {
         Ok(value) => value,
@@ -16,7 +16,7 @@ pub(crate) fn got<T, E: Drop>(rt: &impl Abort, answer: Result<T, E>) -> T {
     }
 }
 
-/// Sees that two values are the same.
+// Sees that two values are the same.
 pub(crate) fn same<T: Copy + PartialEq + Debug>(rt: &impl Abort, found: T, want: T, name: &str) {
     assert_eq!(rt; found, want, "{name}");
 }
@@ -24,11 +24,6 @@ pub(crate) fn same<T: Copy + PartialEq + Debug>(rt: &impl Abort, found: T, want:
 /// The graph of a table.
 pub(crate) fn graph_of(rt: &impl Abort, alloc: Global, nodes: u16, edges: &[Edge]) -> Graph {
     got(rt, sample_networks::graph_of(alloc, nodes, edges))
-}
-
-/// The words that make landmarks of these nodes alone.
-pub(crate) fn words_at(rt: &impl Abort, alloc: Global, nodes: u16, at: &[u16]) -> Vec<u64> {
-    got(rt, sample_networks::words_at(alloc, nodes, at))
 }
 
 /// These nodes as landmarks.

@@ -7,12 +7,8 @@ use std::process::Abort;
 /// Sees that a trail goes over all nodes of the path, from the first to the last.
 fn expect_whole(rt: &impl Abort, trail: &Trail) {
     same(rt, trail.nodes.len(), MOST_NODES as usize, "how many nodes");
-    same(
-        rt,
-        trail.ports.len() + 1,
-        MOST_NODES as usize,
-        "how many ports",
-    );
+    let found = trail.ports.len() + 1;
+    same(rt, found, MOST_NODES as usize, "how many ports");
     same(rt, trail.length, 3 * (MOST_NODES as u64 - 1), "a length");
     for (i, node) in trail.nodes.iter().enumerate() {
         same(rt, *node as usize, i, "a node of the path");

@@ -12,16 +12,12 @@ use std::process::Abort;
 
 mod backups;
 mod commits;
-mod damage;
 mod formats;
 mod full;
-mod groups;
 mod helpers;
 mod memory;
 mod openings;
-mod records;
 mod rolls;
-mod tickets;
 
 use helpers::*;
 

@@ -132,12 +132,8 @@ const NAMED: [(&str, u16, bool); 8] = [
 fn nodes_that_are_named(rt: HostRuntime) {
     for (text, nodes, within) in &NAMED {
         let words = read(&rt, rt.alloc(), text);
-        same(
-            &rt,
-            (*nodes, words.is_within(*nodes)),
-            (*nodes, *within),
-            text,
-        );
+        let found = (*nodes, words.is_within(*nodes));
+        same(&rt, found, (*nodes, *within), text);
     }
 }
 

@@ -2,11 +2,11 @@
 ghost use Rattle.route_tree.specs.Members.{AreMembers};
 
 use crate::helpers::{STACK_LEN, got, listed, same, tree_of};
-use crate::members::{FIVE, below, in_pairs, on_path, on_star, root};
+use crate::members::{below, drawn, five, in_pairs, on_path, on_star, root};
 use bumpalo::Bump;
 use heavy_labels::{Numbered, NumberedMember, number, number_members};
 use linked_list_allocator::LocalHeap;
-use rand_core::{Rng, SeedableRng};
+use rand_core::SeedableRng;
 use rand_xoshiro::Xoshiro256PlusPlus;
 use route_tree::{Member, are_members, table_of};
 use std::alloc::{AllocError, Allocator, Global};
@@ -73,50 +73,17 @@ fn row<'a>(member: &'a NumberedMember) -> Row<'a> {
 }
 
 /// Root 5 with the children 9, 1, 4 and 7; below 1 and 7 hangs one more each. Of the two heaviest 1 is the smaller node.
-const TIE: [Member; 7] = [
-    Member {
-        node: 5,
-        parent: None,
-        up: None,
-        down: None,
-    },
-    Member {
-        node: 9,
-        parent: Some(5),
-        up: Some(0),
-        down: Some(10),
-    },
-    Member {
-        node: 7,
-        parent: Some(5),
-        up: Some(0),
-        down: Some(11),
-    },
-    Member {
-        node: 1,
-        parent: Some(5),
-        up: Some(0),
-        down: Some(12),
-    },
-    Member {
-        node: 4,
-        parent: Some(5),
-        up: Some(0),
-        down: Some(13),
-    },
-    Member {
-        node: 0,
-        parent: Some(7),
-        up: Some(0),
-        down: Some(20),
-    },
-    Member {
-        node: 8,
-        parent: Some(1),
-        up: Some(0),
-        down: Some(30),
-    },
-];
+fn tie() -> [Member; 7] {
+    [
+        root(5),
+        below(5, 9, 0, 10),
+        below(5, 7, 0, 11),
+        below(5, 1, 0, 12),
+        below(5, 4, 0, 13),
+        below(7, 0, 0, 20),
+        below(1, 8, 0, 30),
+    ]
+}
 
 /// They are numbered 5, 1, 8, 4, 7, 0, 9.
 const ROWS: [Row<'static>; 7] = [
@@ -134,19 +101,20 @@ const ROWS: [Row<'static>; 7] = [
 fn numbers_a_tie_by_the_smaller_node(rt: HostRuntime) {
     let alloc = rt.alloc();
     let rt = &rt;
-    let all = got(rt, flat_of(rt, alloc, &TIE, alloc));
+    let tie = tie();
+    let all = got(rt, flat_of(rt, alloc, &tie, alloc));
     same(rt, all.len(), 7, "the members");
     for (found, want) in all.iter().zip(ROWS.iter()) {
         same(rt, row(found), *want, "a member");
     }
-    expect_same(rt, alloc, &TIE);
+    expect_same(rt, alloc, &tie);
 }
 
 #[test]
 fn numbers_small_trees_as_their_trees_do(rt: HostRuntime) {
     let alloc = rt.alloc();
     let rt = &rt;
-    expect_same(rt, alloc, &FIVE);
+    expect_same(rt, alloc, &five());
     expect_same(rt, alloc, &[root(65_535)]);
     expect_same(rt, alloc, &[root(65_535), below(65_535, 0, 65_535, 65_534)]);
 }
@@ -187,26 +155,6 @@ fn numbers_the_deepest_path(rt: HostRuntime) {
     same(rt, got(rt, started).join(rt), 16_384, "the members");
 }
 
-/// A drawn tree of nodes in no order: each member but the first hangs on an earlier one, by a drawn port.
-fn drawn(rt: &impl Abort, alloc: Global, rng: &mut Xoshiro256PlusPlus) -> Vec<Member> {
-    let nodes = 1 + rng.next_u64() % 60;
-    let mask = (rng.next_u64() % 65_536) as u16;
-    let near = 1 + rng.next_u64() % 8;
-    let mut all = got(rt, vec![in alloc; root(mask)]);
-    for i in 1..nodes {
-        let back = 1 + rng.next_u64() % i.min(near);
-        let place = (i - back.min(i)) as usize;
-        let Some(parent) = all.get(place) else {
-            break;
-        };
-        let parent = parent.node;
-        let node = mask ^ (i as u16).reverse_bits() ^ i as u16;
-        let down = (rng.next_u64() % 65_536) as u16;
-        got(rt, all.push(below(parent, node, 0, down)));
-    }
-    all
-}
-
 #[test]
 fn numbers_300_drawn_trees_as_their_trees_do(rt: HostRuntime) {
     let alloc = rt.alloc();
@@ -237,39 +185,18 @@ fn expect_firsts(rt: &impl Abort, alloc: Global, members: &[Member], firsts: &[u
     }
 }
 
-/// Few members of nodes far apart, which are sorted: 60,000 with the children 9 and 40,000, and 7 below 40,000.
-const FAR: [Member; 4] = [
-    Member {
-        node: 60_000,
-        parent: None,
-        up: None,
-        down: None,
-    },
-    Member {
-        node: 9,
-        parent: Some(60_000),
-        up: Some(0),
-        down: Some(0),
-    },
-    Member {
-        node: 40_000,
-        parent: Some(60_000),
-        up: Some(1),
-        down: Some(1),
-    },
-    Member {
-        node: 7,
-        parent: Some(40_000),
-        up: Some(0),
-        down: Some(0),
-    },
-];
-
 /// Made for the refusal of each allocation in turn: what had no memory is made again.
 #[test]
 fn numbers_after_a_want_of_memory(rt: HostRuntime) {
     let alloc = rt.alloc();
     let rt = &rt;
-    expect_firsts(rt, alloc, &FIVE, &[0u16, 1, 3, 2, 4]);
-    expect_firsts(rt, alloc, &FAR, &[0u16, 3, 1, 2]);
+    expect_firsts(rt, alloc, &five(), &[0u16, 1, 3, 2, 4]);
+    // few members of nodes far apart, which are sorted
+    let far = [
+        root(60_000),
+        below(60_000, 9, 0, 0),
+        below(60_000, 40_000, 1, 1),
+        below(40_000, 7, 0, 0),
+    ];
+    expect_firsts(rt, alloc, &far, &[0u16, 3, 1, 2]);
 }

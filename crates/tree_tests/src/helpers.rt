@@ -4,10 +4,7 @@ use std::alloc::{Allocator, Global};
 use std::fmt::Debug;
 use std::process::Abort;
 
-/// The stack of a thread that grows deep trees, and the size of a heap that holds the largest.
-pub(crate) const STACK_LEN: usize = 67_108_864;
-
-/// The value of an answer that has to have one.
+// The value of an answer that has to have one.
 pub(crate) fn got<T, E: Drop>(rt: &impl Abort, answer: Result<T, E>) -> T {
     match answer {
         Ok(value) => value,
@@ -15,10 +12,13 @@ pub(crate) fn got<T, E: Drop>(rt: &impl Abort, answer: Result<T, E>) -> T {
     }
 }
 
-/// Sees that two values are the same.
+// Sees that two values are the same.
 pub(crate) fn same<T: Copy + PartialEq + Debug>(rt: &impl Abort, found: T, want: T, name: &str) {
     assert_eq!(rt; found, want, "{name}");
 }
+
+/// The stack of a thread that grows deep trees, and the size of a heap that holds the largest.
+pub(crate) const STACK_LEN: usize = 67_108_864;
 
 /// The tree of these members, grown in `scratch`.
 pub(crate) fn tree_of<A: Allocator + Clone>(

@@ -1,11 +1,11 @@
 // Worked trees, and drawn ones against paths found by climbing parents. The numbers of the tree of five are bytes in conformance/tables.txt.
 use crate::helpers::{STACK_LEN, got, listed, same, tree_of};
-use crate::members::{FIVE, below, in_pairs, on_path, root};
+use crate::members::{drawn, five, in_pairs, on_path};
 use arrayvec::ArrayVec;
 use bumpalo::Bump;
 use heavy_labels::{Label, MOST_LIGHTS, Numbered, NumberedMember, Record, TreeStep, number, step};
 use linked_list_allocator::LocalHeap;
-use rand_core::{Rng, SeedableRng};
+use rand_core::SeedableRng;
 use rand_xoshiro::Xoshiro256PlusPlus;
 use route_tree::Member;
 use std::alloc::{Allocator, Global};
@@ -70,7 +70,7 @@ const STEPS: [(u16, u16, &[u16], TreeStep); 6] = [
 fn steps_of_five_nodes(rt: HostRuntime) {
     let alloc = rt.alloc();
     let rt = &rt;
-    let all = numbered(rt, alloc, &FIVE);
+    let all = numbered(rt, alloc, &five());
     for (node, first, lights, want) in &STEPS {
         let at = of_node(rt, &all, *node);
         let found = step(&at.tree_record, &label(*first, lights));
@@ -162,31 +162,6 @@ fn copies_are_equal(rt: HostRuntime) {
     same(rt, one.first(), 7, "the number");
 }
 
-/// A drawn tree: each member but the first hangs on an earlier one, by the next free port there.
-fn drawn(rt: &impl Abort, alloc: Global, rng: &mut Xoshiro256PlusPlus) -> Vec<Member> {
-    let nodes = 1 + rng.next_u64() % 40;
-    let mask = (rng.next_u64() % 64) as u16;
-    let deep = rng.next_u64() % 4;
-    let mut all = got(rt, vec![in alloc; root(mask)]);
-    let mut free = got(rt, vec![in alloc; 0u16]);
-    for i in 1..nodes {
-        let back = if deep == 0 { 1 } else { 1 + rng.next_u64() % i };
-        let place = (i - back.min(i)) as usize;
-        let Some(parent) = all.get(place) else {
-            break;
-        };
-        let parent = parent.node;
-        let Some(port) = free.get_mut(place) else {
-            break;
-        };
-        let down = *port;
-        *port = down.saturating_add(1);
-        got(rt, all.push(below(parent, mask ^ i as u16, 0, down)));
-        got(rt, free.push(1));
-    }
-    all
-}
-
 /// The step at the node x towards v: by climbing from v, down to the child of x on the way, or else up.
 fn climbed(members: &[Member], x: &Member, v: &Member) -> TreeStep {
     let mut at = v;
@@ -216,12 +191,8 @@ fn expect_climbed(rt: &impl Abort, all: &Numbered, members: &[Member]) {
         for v in members {
             let found = step(&at.tree_record, &of_node(rt, all, v.node).label);
             let want = climbed(members, x, v);
-            same(
-                rt,
-                (x.node, v.node, found),
-                (x.node, v.node, want),
-                "a step",
-            );
+            let found = (x.node, v.node, found);
+            same(rt, found, (x.node, v.node, want), "a step");
         }
     }
 }

@@ -1,5 +1,10 @@
 // The members of the trees that the tests grow.
+use crate::helpers::got;
+use rand_core::Rng;
+use rand_xoshiro::Xoshiro256PlusPlus;
 use route_tree::Member;
+use std::alloc::Global;
+use std::process::Abort;
 
 pub(crate) fn root(node: u16) -> Member {
     Member {
@@ -20,38 +25,15 @@ pub(crate) fn below(parent: u16, node: u16, up: u16, down: u16) -> Member {
 }
 
 /// Root 2 with the children 1 and 3, 1 with the child 0, 3 with the child 4: a path 0 - 1 - 2 - 3 - 4.
-pub(crate) const FIVE: [Member; 5] = [
-    Member {
-        node: 2,
-        parent: None,
-        up: None,
-        down: None,
-    },
-    Member {
-        node: 1,
-        parent: Some(2),
-        up: Some(1),
-        down: Some(0),
-    },
-    Member {
-        node: 3,
-        parent: Some(2),
-        up: Some(0),
-        down: Some(1),
-    },
-    Member {
-        node: 0,
-        parent: Some(1),
-        up: Some(0),
-        down: Some(0),
-    },
-    Member {
-        node: 4,
-        parent: Some(3),
-        up: Some(0),
-        down: Some(1),
-    },
-];
+pub(crate) fn five() -> [Member; 5] {
+    [
+        root(2),
+        below(2, 1, 1, 0),
+        below(2, 3, 0, 1),
+        below(1, 0, 0, 0),
+        below(3, 4, 0, 1),
+    ]
+}
 
 /// Below node i hang 2i + 1 and 2i + 2. Ports go by ascending neighbours.
 pub(crate) fn in_pairs(i: u16) -> Member {
@@ -79,4 +61,24 @@ pub(crate) fn on_star(i: u16) -> Member {
     } else {
         below(16_383, leaf, 0, leaf)
     }
+}
+
+/// A drawn tree of nodes in no order: each member but the first hangs on an earlier one, by a drawn port.
+pub(crate) fn drawn(rt: &impl Abort, alloc: Global, rng: &mut Xoshiro256PlusPlus) -> Vec<Member> {
+    let nodes = 1 + rng.next_u64() % 60;
+    let mask = (rng.next_u64() % 65_536) as u16;
+    let near = 1 + rng.next_u64() % 8;
+    let mut all = got(rt, vec![in alloc; root(mask)]);
+    for i in 1..nodes {
+        let back = 1 + rng.next_u64() % i.min(near);
+        let place = (i - back.min(i)) as usize;
+        let Some(parent) = all.get(place) else {
+            break;
+        };
+        let parent = parent.node;
+        let node = mask ^ (i as u16).reverse_bits() ^ i as u16;
+        let down = (rng.next_u64() % 65_536) as u16;
+        got(rt, all.push(below(parent, node, 0, down)));
+    }
+    all
 }

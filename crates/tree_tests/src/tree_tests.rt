@@ -1,6 +1,6 @@
 // Route trees: by hand, the greatest of each form under each allocator, and each growth refused.
 use crate::helpers::{STACK_LEN, got, listed, same, tree_of};
-use crate::members::{FIVE, below, in_pairs, on_path, on_star, root};
+use crate::members::{below, five, in_pairs, on_path, on_star, root};
 use bumpalo::Bump;
 use linked_list_allocator::LocalHeap;
 use route_tree::{MOST_MEMBERS, Member, RouteTree, Twig, are_members};
@@ -31,30 +31,18 @@ fn child_of<'a, A: Allocator>(rt: &impl Abort, twig: &'a Twig<A>, place: usize) 
 fn path_of_five(rt: HostRuntime) {
     let alloc = rt.alloc();
     let rt = &rt;
-    let tree = tree_of(rt, alloc, alloc, &FIVE);
+    let tree = tree_of(rt, alloc, alloc, &five());
     let top = tree.root();
     same(rt, tree.size(), 5, "the size");
     same(rt, seen(top), (2, None, None, 5, 2), "the root");
     let (left, right) = (child_of(rt, top, 0), child_of(rt, top, 1));
-    same(
-        rt,
-        seen(left),
-        (1, Some(1), Some(0), 2, 1),
-        "the heavy child",
-    );
-    same(
-        rt,
-        seen(right),
-        (3, Some(0), Some(1), 2, 1),
-        "the other child",
-    );
+    let found = seen(left);
+    same(rt, found, (1, Some(1), Some(0), 2, 1), "the heavy child");
+    let found = seen(right);
+    same(rt, found, (3, Some(0), Some(1), 2, 1), "the other child");
     let (first, last) = (child_of(rt, left, 0), child_of(rt, right, 0));
-    same(
-        rt,
-        seen(first),
-        (0, Some(0), Some(0), 1, 0),
-        "the first end",
-    );
+    let found = seen(first);
+    same(rt, found, (0, Some(0), Some(0), 1, 0), "the first end");
     same(rt, seen(last), (4, Some(0), Some(1), 1, 0), "the last end");
 }
 
@@ -99,12 +87,8 @@ fn star_of_leaves(rt: HostRuntime) {
     let members = listed(rt, alloc, 16_384, on_star);
     let tree = tree_of(rt, alloc, alloc, &members);
     let leaves = tree.root().children();
-    same(
-        rt,
-        (tree.size(), leaves.len()),
-        (16_384, 16_383),
-        "the sizes",
-    );
+    let here = (tree.size(), leaves.len());
+    same(rt, here, (16_384, 16_383), "the sizes");
     for (i, leaf) in leaves.iter().enumerate() {
         let found = (leaf.node() as usize, leaf.size(), leaf.down());
         same(rt, found, (i, 1, Some(leaf.node())), "a leaf");
@@ -125,12 +109,8 @@ fn length_of_path<A: Allocator>(tree: &RouteTree<A>) -> usize {
 
 /// Sees that a tree is a path of all nodes.
 fn expect_path<A: Allocator>(rt: &impl Abort, tree: &RouteTree<A>) {
-    same(
-        rt,
-        (tree.size(), length_of_path(tree)),
-        (16_384, 16_384),
-        "a path",
-    );
+    let found = (tree.size(), length_of_path(tree));
+    same(rt, found, (16_384, 16_384), "a path");
 }
 
 /// The path of all nodes under each allocator; answers how often it was grown.

@@ -137,10 +137,8 @@ fn homes_of_path(rt: &impl Abort, alloc: Global, changed: Changed) -> Vec<Option
     if changed == Changed::OneHomeShort {
         return got(rt, vec![in alloc; of_0, of_1, of_2, of_3]);
     }
-    got(
-        rt,
-        vec![in alloc; of_0, of_1, of_2, of_3, Some(label(4, &[port]))],
-    )
+    let answer = vec![in alloc; of_0, of_1, of_2, of_3, Some(label(4, &[port]))];
+    got(rt, answer)
 }
 
 fn path_with(rt: &impl Abort, alloc: Global, changed: Changed) -> Scheme {

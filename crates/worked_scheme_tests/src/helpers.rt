@@ -4,7 +4,7 @@ use graph_edits::Graph;
 use heavy_labels::{Label, MOST_LIGHTS, Record};
 use linked_list_allocator::LocalHeap;
 use node_table::build;
-use sample_networks::landmarks_at;
+use sample_networks::{landmarks_at, words_at};
 pub(crate) use sample_networks::{Edge, PATH, TRIANGLE};
 use scheme_builds::scheme_of;
 use schemes::{CarryRefused, Entry, Scheme, Trail};
@@ -12,7 +12,7 @@ use std::alloc::{AllocError, Allocator, Global};
 use std::fmt::Debug;
 use std::process::Abort;
 
-/// The value of an answer that has to have one.
+// The value of an answer that has to have one.
 pub(crate) fn got<T, E: Drop>(rt: &impl Abort, answer: Result<T, E>) -> T {
     match answer {
         Ok(value) => value,
@@ -20,7 +20,7 @@ pub(crate) fn got<T, E: Drop>(rt: &impl Abort, answer: Result<T, E>) -> T {
     }
 }
 
-/// Sees that two values are the same.
+// Sees that two values are the same.
 pub(crate) fn same<T: Copy + PartialEq + Debug>(rt: &impl Abort, found: T, want: T, name: &str) {
     assert_eq!(rt; found, want, "{name}");
 }
@@ -31,11 +31,6 @@ pub(crate) const STACK_LEN: usize = 67_108_864;
 /// The graph of a table.
 pub(crate) fn graph_of(rt: &impl Abort, alloc: Global, nodes: u16, edges: &[Edge]) -> Graph {
     got(rt, sample_networks::graph_of(alloc, nodes, edges))
-}
-
-/// The words that make landmarks of these nodes alone.
-pub(crate) fn words_at(rt: &impl Abort, alloc: Global, nodes: u16, at: &[u16]) -> Vec<u64> {
-    got(rt, sample_networks::words_at(alloc, nodes, at))
 }
 
 /// The scheme of a graph with landmarks at these nodes, built tree by tree over a scratch.
@@ -62,7 +57,7 @@ pub(crate) fn by_lists<A: Allocator + Clone>(
     at: &[u16],
     scratch: A,
 ) -> Result<Scheme, AllocError> {
-    let words = words_at(rt, alloc, graph.nodes(), at);
+    let words = got(rt, words_at(alloc, graph.nodes(), at));
     scheme_of(alloc, graph, &words, 7, scratch)
 }
 

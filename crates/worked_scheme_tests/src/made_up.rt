@@ -145,19 +145,11 @@ fn expect_refused(
     address: &Address,
     refused: Refused,
 ) {
-    same(
-        rt,
-        scheme.decide(u, address).err(),
-        Some(refused),
-        "decided",
-    );
+    let found = scheme.decide(u, address).err();
+    same(rt, found, Some(refused), "decided");
     let carried = scheme.carry(alloc, u, address).err();
-    same(
-        rt,
-        carried.map(|why| why as u8),
-        Some(refused as u8),
-        "carried",
-    );
+    let found = carried.map(|why| why as u8);
+    same(rt, found, Some(refused as u8), "carried");
 }
 
 #[test]
@@ -165,18 +157,10 @@ fn decides_by_the_directory_first(rt: HostRuntime) {
     let alloc = rt.alloc();
     let rt = &rt;
     let scheme = Scheme::assemble(two(rt, alloc, 7));
-    same(
-        rt,
-        decided(&scheme, 1, &through(1, 0)),
-        Some((1, 0, 1, 9)),
-        "by the directory",
-    );
-    same(
-        rt,
-        decided(&scheme, 0, &through(1, 0)),
-        Some((0, 1, 1, 9)),
-        "by the home",
-    );
+    let found = decided(&scheme, 1, &through(1, 0));
+    same(rt, found, Some((1, 0, 1, 9)), "by the directory");
+    let found = decided(&scheme, 0, &through(1, 0));
+    same(rt, found, Some((0, 1, 1, 9)), "by the home");
     let homeless = Address {
         generation: 1,
         node: 1,
@@ -245,10 +229,6 @@ fn a_length_stays_at_the_greatest(rt: HostRuntime) {
     same(rt, trail.length, u64::MAX, "the length");
     let other = Scheme::assemble(two(rt, alloc, 7));
     let refused = other.carry(alloc, 5, &address);
-    same(
-        rt,
-        refused.err(),
-        Some(CarryRefused::NoNode),
-        "from no node",
-    );
+    let found = refused.err();
+    same(rt, found, Some(CarryRefused::NoNode), "from no node");
 }

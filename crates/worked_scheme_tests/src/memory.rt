@@ -4,22 +4,16 @@ use crate::drawn::is_right;
 use crate::helpers::{Edge, PATH, built, carried, got, graph_of, heap_of, same, scheme_with};
 use rand_core::{Rng, SeedableRng};
 use rand_xoshiro::Xoshiro256PlusPlus;
-use sample_networks::plain_distances;
-use schemes::Scheme;
+use sample_networks::PlainGraph;
 use std::alloc::Global;
-use std::process::Abort;
 use written_values::Draws;
 
 #[test]
 fn builds_after_a_want_of_memory(rt: HostRuntime) {
     let scheme = scheme_with(&rt, rt.alloc(), 5, &PATH, &[2]);
     for (x, trees) in &[(0u16, 3usize), (1, 2), (2, 1), (3, 2), (4, 3)] {
-        same(
-            &rt,
-            scheme.entries_of(*x).len(),
-            *trees,
-            "the trees of a node",
-        );
+        let found = scheme.entries_of(*x).len();
+        same(&rt, found, *trees, "the trees of a node");
     }
 }
 
@@ -29,18 +23,10 @@ fn carries_after_a_want_of_memory(rt: HostRuntime) {
     let rt = &rt;
     let scheme = scheme_with(rt, alloc, 5, &PATH, &[2]);
     let trail = got(rt, carried(rt, alloc, &scheme, 0, 4));
-    same(
-        rt,
-        trail.nodes.as_slice(),
-        [0u16, 1, 2, 3, 4].as_slice(),
-        "the nodes",
-    );
-    same(
-        rt,
-        trail.ports.as_slice(),
-        [0u16, 1, 1, 1].as_slice(),
-        "the ports",
-    );
+    let found = trail.nodes.as_slice();
+    same(rt, found, [0u16, 1, 2, 3, 4].as_slice(), "the nodes");
+    let found = trail.ports.as_slice();
+    same(rt, found, [0u16, 1, 1, 1].as_slice(), "the ports");
     same(rt, trail.length, 4, "the length");
 }
 
@@ -63,44 +49,49 @@ fn drawn_edges() -> [Edge; 22] {
     edges
 }
 
-/// Sees that the routes from a node to all are right by the plain distances.
-fn expect_right(rt: &impl Abort, alloc: Global, scheme: &Scheme, edges: &[Edge], from: u16) {
-    let distances = match plain_distances(alloc, DRAWN, edges, from) {
-        Ok(distances) => distances,
-        Err(_) => got(rt, plain_distances(alloc, DRAWN, edges, from)),
-    };
-    for to in 0..DRAWN {
-        let trail = got(rt, carried(rt, alloc, scheme, from, to));
-        let right = match distances.get(to as usize) {
-            Some(Some(least)) => is_right(&trail, edges, from, to, *least),
-            _ => false,
-        };
-        assert!(rt; right);
-    }
-}
-
 #[test]
 fn builds_a_drawn_graph_after_a_want_of_memory(rt: HostRuntime) {
     let alloc = rt.alloc();
     let edges = drawn_edges();
     let scheme = scheme_with(&rt, alloc, DRAWN, &edges[1..], &[3, 8]);
+    let plain = match PlainGraph::new(alloc, DRAWN, &edges) {
+        Ok(plain) => plain,
+        Err(_) => got(&rt, PlainGraph::new(alloc, DRAWN, &edges)),
+    };
     for from in 0..DRAWN {
-        expect_right(&rt, alloc, &scheme, &edges, from);
+        for to in 0..DRAWN {
+            let trail = got(&rt, carried(&rt, alloc, &scheme, from, to));
+            assert!(rt; is_right(&trail, &plain, from, to));
+        }
     }
 }
 
-/// Where a draw is refused memory, nothing was drawn: made again it gives the same words.
+/// The words of `draw:1`, in two draws: how many words, and these. Where a draw is refused memory, nothing was drawn: made again it gives the
+/// same words.
+const DRAWS: [(u16, &[u64]); 2] = [
+    (2, &[14971601782005023387, 13781649495232077965]),
+    (
+        3,
+        &[
+            1847458086238483744,
+            13765271635752736470,
+            3406718355780431780,
+        ],
+    ),
+];
+
 #[test]
 fn draws_after_a_want_of_memory(rt: HostRuntime) {
     let alloc = rt.alloc();
     let rt = &rt;
     let mut draws = Draws::seeded(1);
-    let words = match draws.next(alloc, 2) {
-        Ok(words) => words,
-        Err(_) => got(rt, draws.next(alloc, 2)),
-    };
-    let want = [14971601782005023387u64, 13781649495232077965];
-    same(rt, words.as_slice(), want.as_slice(), "the words of a draw");
+    for (count, want) in &DRAWS {
+        let words = match draws.next(alloc, *count) {
+            Ok(words) => words,
+            Err(_) => got(rt, draws.next(alloc, *count)),
+        };
+        same(rt, words.as_slice(), *want, "the words of a draw");
+    }
 }
 
 /// A scratch that is too small is refused, and all that was taken of it is given back.

@@ -6,7 +6,7 @@ use forwarders::Forwarder;
 use generations::{BoardWriter, MOST_SHELVED};
 use rand_core::Rng;
 use rand_xoshiro::Xoshiro256PlusPlus;
-use sample_networks::{Edge, drawn_edges, drawn_nodes, graph_of, words_at};
+use sample_networks::{Edge, PlainGraph, drawn_edges, drawn_nodes, graph_of, words_at};
 use scheme_builds::scheme_of;
 use schemes::Scheme;
 use std::alloc::Global;
@@ -30,16 +30,10 @@ pub(crate) fn number(rng: &mut Xoshiro256PlusPlus, limit: u16) -> u16 {
 pub(crate) type Network = Vec<Vec<u16>>;
 
 fn neighbours_of(rt: &impl Abort, alloc: Global, nodes: u16, edges: &[Edge]) -> Network {
+    let plain = got(rt, PlainGraph::new(alloc, nodes, edges));
     let mut network = Vec::new(alloc);
-    for a in 0..nodes {
-        let mut neighbours = Vec::new(alloc);
-        for b in 0..nodes {
-            let ends = [(a, b), (b, a)];
-            if edges.iter().any(|edge| ends.contains(&(edge.0, edge.1))) {
-                got(rt, neighbours.push(b));
-            }
-        }
-        got(rt, network.push(neighbours));
+    for node in 0..nodes {
+        got(rt, network.push(got(rt, plain.neighbours(alloc, node))));
     }
     network
 }

@@ -1,5 +1,5 @@
-// A rehearsal made again where memory was short. Run by `./refuse-memory`, which refuses each allocation in turn: the call in which it is
-// refused answers so, or a line says so; and the same text, read again, is told whole.
+// Rehearsals and trials made again where memory was short. Run by `./refuse-memory`, which refuses each allocation in turn: the call in which
+// it is refused says so, or a line does; and made again it gives the whole answer.
 use super::*;
 
 const TEXT: &str = "device 3
@@ -30,25 +30,6 @@ crash taken=1 settled=1 postings=2
 opened count=2 edges=1 tickets=1 0:2
 ";
 
-// What is told of the text; `None` where memory ran out.
-fn told_of(rt: &impl Abort, alloc: Global, text: &str) -> Option<String> {
-    let lines = match read_rehearsal(alloc, text) {
-        Ok(Ok(lines)) => lines,
-        Ok(Err(refused)) => panic!(rt; "{refused}"),
-        Err(_) => return None,
-    };
-    let rehearsal = match lives_of(alloc, lines) {
-        Ok(Some(rehearsal)) => rehearsal,
-        Ok(None) => panic!(rt; "nothing is asked for"),
-        Err(_) => return None,
-    };
-    match rehearse(alloc, &rehearsal) {
-        Ok(told) => Some(told),
-        Err(RehearseRefused::Memory) => None,
-        Err(RehearseRefused::Nodes) => panic!(rt; "nodes"),
-    }
-}
-
 // Whether a line says that memory ran out.
 fn names_memory(told: &str) -> bool {
     for line in told.lines() {
@@ -62,18 +43,81 @@ fn names_memory(told: &str) -> bool {
     false
 }
 
+// What is told; `None` where memory ran out.
+fn given(rt: &impl Abort, told: Result<String, RehearseRefused>) -> Option<String> {
+    match told {
+        Ok(told) if names_memory(told.as_str()) => None,
+        Ok(told) => Some(told),
+        Err(RehearseRefused::Memory) => None,
+        Err(RehearseRefused::Nodes) => panic!(rt; "nodes"),
+    }
+}
+
+fn told_of(rt: &impl Abort, alloc: Global) -> Option<String> {
+    given(rt, rehearse(alloc, &asked(rt, alloc, TEXT)))
+}
+
 #[test]
 fn a_rehearsal_once_memory_is_there(rt: HostRuntime) {
     let alloc = rt.alloc();
     let rt = &rt;
-    if let Some(told) = told_of(rt, alloc, TEXT) {
-        if !names_memory(told.as_str()) {
-            same(rt, told.as_str(), WANT, "with memory");
-            return;
-        }
+    let told = match told_of(rt, alloc) {
+        Some(told) => told,
+        None => got(rt, told_of(rt, alloc).ok_or("no memory")),
+    };
+    same(rt, told.as_str(), WANT, "with memory");
+}
+
+// The calls that are noted of three syncs.
+fn noted(rt: &impl Abort, alloc: Global) -> Result<Vec<Call>, AllocError> {
+    let mut disk = Watched::new(alloc, MemDisk::new(alloc, 16)?);
+    for _ in 0..3u8 {
+        got(rt, disk.sync());
     }
-    match told_of(rt, alloc, TEXT) {
-        Some(told) => same(rt, told.as_str(), WANT, "once memory is there"),
-        None => panic!(rt; "no memory"),
-    }
+    disk.into_calls()
+}
+
+#[test]
+fn stops_and_tables_once_memory_is_there(rt: HostRuntime) {
+    let alloc = rt.alloc();
+    let rt = &rt;
+    let calls = match noted(rt, alloc) {
+        Ok(calls) => calls,
+        Err(_) => got(rt, noted(rt, alloc)),
+    };
+    let want = [Call::Sync; 3];
+    same(rt, calls.as_slice(), want.as_slice(), "the calls");
+    let stops = match stops_of(alloc, &calls, 2) {
+        Ok(stops) => stops,
+        Err(_) => got(rt, stops_of(alloc, &calls, 2)),
+    };
+    let want = [1, 2].map(|call| Stop { call, put: 0 });
+    same(rt, stops.as_slice(), want.as_slice(), "the stops");
+    let kind = kind(0, 1, 1);
+    let table = match table_of(alloc, &[kind, kind]) {
+        Ok(table) => table,
+        Err(_) => got(rt, table_of(alloc, &[kind, kind])),
+    };
+    let want = [KindCount { kind, trials: 2 }];
+    same(rt, table.as_slice(), want.as_slice(), "the table");
+}
+
+// What is told of the first two stops; `None` where memory ran out.
+fn tried(rt: &impl Abort, alloc: Global) -> Option<String> {
+    let mut rehearsal = asked(rt, alloc, ONE_CHANGE);
+    given(rt, try_every_stop(alloc, &mut rehearsal, 2, |_: usize| {}))
+}
+
+#[test]
+fn trials_once_memory_is_there(rt: HostRuntime) {
+    let alloc = rt.alloc();
+    let rt = &rt;
+    let want = "stops=2 of=31
+found=0 acknowledged=0 opened=0 stops=2
+";
+    let told = match tried(rt, alloc) {
+        Some(told) => told,
+        None => got(rt, tried(rt, alloc).ok_or("no memory")),
+    };
+    same(rt, told.as_str(), want, "with memory");
 }

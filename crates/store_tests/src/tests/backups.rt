@@ -132,16 +132,12 @@ fn backups_where_no_device_can_be_made(rt: HostRuntime) {
     let answer = backed_up(alloc, &store, &mut NoDevices::new(), "b");
     same(rt, answer, Err(BackupRefused::Unusable), "a backup");
     let texts = [
-        BackupRefused::FileExists.text(),
-        BackupRefused::Unusable.text(),
-        BackupRefused::Memory.text(),
-        BackupRefused::Device.text(),
+        (BackupRefused::FileExists, "file exists"),
+        (BackupRefused::Unusable, "device file cannot be used"),
+        (BackupRefused::Memory, "out of memory"),
+        (BackupRefused::Device, "device failed"),
     ];
-    let told = [
-        "file exists",
-        "device file cannot be used",
-        "out of memory",
-        "device failed",
-    ];
-    same(rt, texts, told, "the texts");
+    for (refused, told) in &texts {
+        same(rt, refused.text(), *told, "a text");
+    }
 }

@@ -21,25 +21,6 @@ fn unclean(rt: &impl Abort, alloc: Global) -> MemDisk {
     disk
 }
 
-#[test]
-fn formats_one_node(rt: HostRuntime) {
-    let alloc = rt.alloc();
-    let rt = &rt;
-    let mut disk = unclean(rt, alloc);
-    formats(rt, &mut disk, 1, Ok(()), "one node");
-    for (at, text) in &FRONTS {
-        shows(rt, &mut disk, *at, text);
-    }
-    shows_zeros(rt, &mut disk, 4119, 64);
-    shows_one_node(rt, opened(rt, alloc, disk));
-}
-
-fn shows_one_node(rt: &impl Abort, store: Store<MemDisk>) {
-    has(rt, &store, (0, 0), (0, 0, None), "one node");
-    same(rt, (store.nodes(), store.is_down()), (1, false), "one node");
-    same(rt, store.starts(), [0; 64], "one node");
-}
-
 // From where to where a format for one node may write.
 const RANGES: [(usize, usize); 4] = [
     (0, 10),
@@ -49,12 +30,21 @@ const RANGES: [(usize, usize); 4] = [
 ];
 
 #[test]
-fn leaves_other_bytes(rt: HostRuntime) {
+fn formats_one_node(rt: HostRuntime) {
     let alloc = rt.alloc();
     let rt = &rt;
     let mut disk = unclean(rt, alloc);
     let before = digest(rt, &mut disk);
     formats(rt, &mut disk, 1, Ok(()), "one node");
+    for (at, text) in &FRONTS {
+        shows(rt, &mut disk, *at, text);
+    }
+    shows_zeros(rt, &mut disk, 4119, 64);
+    let store = opened(rt, alloc, disk);
+    same(rt, (store.nodes(), store.is_down()), (1, false), "one node");
+    same(rt, store.starts(), [0; 64], "one node");
+    has(rt, &store, (0, 0), (0, 0, None), "one node");
+    let mut disk = store.into_disk();
     for (from, to) in &RANGES {
         for at in *from..*to {
             put(rt, &mut disk, at, &[0xa5]);
@@ -72,41 +62,15 @@ const LIMITS: [(usize, u16, FormatRefused); 5] = [
     (DEVICE_LEN + 1, 5, FormatRefused::BadLength),
 ];
 
-// Sees that a format is refused and writes nothing at the device's front.
-fn formats_not(rt: &impl Abort, alloc: Global, len: usize, nodes: u16, want: FormatRefused) {
-    let mut disk = blank(rt, alloc, len);
-    formats(rt, &mut disk, nodes, Err(want), "limits");
-    ends_in(rt, disk, 0, "00000000000000000000");
-}
-
-// Sees that a device can be formatted for so many nodes.
-fn formats_for(rt: &impl Abort, alloc: Global, nodes: u16) {
-    let mut disk = blank(rt, alloc, DEVICE_LEN);
-    formats(rt, &mut disk, nodes, Ok(()), "limits");
-    same(rt, opened(rt, alloc, disk).nodes(), nodes, "limits");
-}
-
 #[test]
-fn formats_within_the_limits(rt: HostRuntime) {
+fn refuses_what_is_past_the_limits(rt: HostRuntime) {
     let alloc = rt.alloc();
     let rt = &rt;
     for (len, nodes, want) in &LIMITS {
-        formats_not(rt, alloc, *len, *nodes, *want);
+        let mut disk = blank(rt, alloc, *len);
+        formats(rt, &mut disk, *nodes, Err(*want), "limits");
+        shows(rt, &mut disk, 0, "00000000000000000000");
     }
-    formats_for(rt, alloc, 16_384);
-}
-
-// A device on which this call fails.
-fn failing(rt: &impl Abort, alloc: Global, call: u64) -> MemDisk {
-    let mut disk = blank(rt, alloc, DEVICE_LEN);
-    disk.fail_at(call);
-    disk
-}
-
-// Formats where no call of it fails.
-fn formats_now(rt: &impl Abort, disk: MemDisk) {
-    let mut disk = disk;
-    formats(rt, &mut disk, 5, Ok(()), "no plan is left");
 }
 
 #[test]
@@ -114,12 +78,15 @@ fn each_call_of_a_format_fails(rt: HostRuntime) {
     let alloc = rt.alloc();
     let rt = &rt;
     // no call is left out, and none is made besides
-    for call in 1..6u64 {
-        let mut disk = failing(rt, alloc, call);
-        formats(rt, &mut disk, 5, DEVICE, "a call fails");
-        formats_now(rt, disk);
+    for call in 1..7u64 {
+        let mut disk = blank(rt, alloc, DEVICE_LEN);
+        disk.fail_at(call);
+        let want = if call < 6 { DEVICE } else { Ok(()) };
+        formats(rt, &mut disk, 5, want, "a call fails");
+        if call < 6 {
+            formats(rt, &mut disk, 5, Ok(()), "no plan is left");
+        }
     }
-    formats_now(rt, failing(rt, alloc, 6));
 }
 
 const DEVICE: Result<(), FormatRefused> = Err(FormatRefused::Device);
@@ -144,24 +111,27 @@ fn stops(rt: &impl Abort, alloc: Global, call: u64, put: usize, word: u64) {
     formats_again(rt, alloc, disk.crash(word), "after a stop")
 }
 
-// The header, the head of the first checkpoint, the two gates, and the sync: a call, and behind how many bytes it stops at most.
-const WRITES: [(u64, usize); 5] = [(1, 10), (2, 23), (3, 1), (4, 1), (5, 0)];
-
-// Behind how many bytes the second call stops inside the checkpoint's tickets.
-const TICKETS: [usize; 7] = [24, 30, 31, 279, 527, 534, 535];
+// The header, the head of the first checkpoint, its tickets, the two gates, and the sync: a call, and behind how many bytes it stops,
+// from and to.
+const WRITES: [(u64, usize, usize); 9] = [
+    (1, 0, 10),
+    (2, 0, 24),
+    (2, 30, 31),
+    (2, 279, 279),
+    (2, 527, 527),
+    (2, 534, 535),
+    (3, 0, 1),
+    (4, 0, 1),
+    (5, 0, 0),
+];
 
 #[test]
 fn a_format_stops_inside_each_write(rt: HostRuntime) {
-    let alloc = rt.alloc();
-    let rt = &rt;
     for word in &CRASH_WORDS {
-        for (call, most) in &WRITES {
-            for put in 0..=*most {
-                stops(rt, alloc, *call, put, *word);
+        for (call, least, most) in &WRITES {
+            for put in *least..=*most {
+                stops(&rt, rt.alloc(), *call, put, *word);
             }
-        }
-        for put in &TICKETS {
-            stops(rt, alloc, 2, *put, *word);
         }
     }
 }

@@ -1,4 +1,4 @@
-// A journal that is full, and the most edges.
+// A journal that is full, records at the end of its area and of other lengths, and the most edges.
 use super::*;
 
 // A device of five nodes after 106 groups of 64 requests of 16 ops, the first op of which adds an edge.
@@ -16,6 +16,16 @@ fn full_device(rt: &impl Abort, alloc: Global) -> Store<MemDisk> {
     store
 }
 
+// Where the next record stands then.
+const LAST_GATE: usize = 1_577_958;
+
+// The length of the last record says a byte more or less than its 64 requests of 16 ops have.
+fn is_damaged(rt: &impl Abort, alloc: Global, disk: MemDisk, byte: u8) -> MemDisk {
+    let disk = spoilt(rt, disk, 1_568_099, byte);
+    let disk = is_refused(rt, alloc, disk, OpenRefused::Damaged, "a length");
+    spoilt(rt, disk, 1_568_099, 0x82)
+}
+
 #[test]
 fn fills_a_journal(rt: HostRuntime) {
     let alloc = rt.alloc();
@@ -24,19 +34,22 @@ fn fills_a_journal(rt: HostRuntime) {
     shows_last(rt, &store, 6784, "full");
     // the last record of 9,863 bytes, and the next gate at 1,045,478 of the area
     let mut disk = store.into_disk();
-    shows(
-        rt,
-        &mut disk,
-        1_568_095,
-        "01 00002682 0040 00 0000000000001a41 10",
-    );
-    ends_in(rt, disk, 1_577_958, "00")
+    let front = "01 00002682 0040 00 0000000000001a41 10";
+    shows(rt, &mut disk, 1_568_095, front);
+    shows(rt, &mut disk, LAST_GATE, "00");
+    let disk = is_damaged(rt, alloc, disk, 0x81);
+    let disk = is_damaged(rt, alloc, disk, 0x83);
+    ends_at_last(rt, opened(rt, alloc, disk), 6784, "opened");
 }
 
 // The count and the last ticket of session 0 are one number, and the edge 0-1 is the only one.
 fn shows_last(rt: &impl Abort, store: &Store<MemDisk>, last: u64, name: &str) {
     has(rt, store, (0, 1), (last, 1, Some(1)), name);
     same(rt, store.resume(0), last, name);
+}
+
+fn ends_at_last(rt: &impl Abort, store: Store<MemDisk>, last: u64, name: &str) {
+    shows_last(rt, &store, last, name)
 }
 
 // 22 requests with 319 ops, 3,098 bytes.
@@ -71,25 +84,58 @@ fn a_rolled_journal_takes_the_group(rt: HostRuntime) {
     shows_last(rt, &store, 6806, "rolled");
     let mut disk = store.into_disk();
     shows(rt, &mut disk, SECOND_AREA, "01 00000c15 0016");
+    let record = bytes::<3098>(rt, &mut disk, SECOND_AREA);
     ends_at_last(rt, opened(rt, alloc, disk), 6806, "opened");
+    // where the full journal ends it is damage: the gate behind it would be the other slot's
+    let mut disk = full_device(rt, alloc).into_disk();
+    put(rt, &mut disk, LAST_GATE, &record);
+    is_refused(rt, alloc, disk, OpenRefused::Damaged, "past the end");
 }
 
-fn ends_at_last(rt: &impl Abort, store: Store<MemDisk>, last: u64, name: &str) {
-    shows_last(rt, &store, last, name)
+// The last group, where in the area its next gate stands, and the count. Where that gate is open there is no room for a record: at
+// the first of these places the next record's length just fits, at the others it passes the area's end. 21 requests with 320 ops,
+// 3,097 bytes, are the most that fit.
+const LAST: [([(u64, u64, usize); 3], usize, u64); 3] = [
+    (
+        [(6785, 19, 16), (6804, 1, 4), (6805, 6, 1)],
+        1_048_571,
+        6810,
+    ),
+    (
+        [(6785, 19, 16), (6804, 1, 2), (6805, 7, 1)],
+        1_048_572,
+        6811,
+    ),
+    (
+        [(6785, 19, 16), (6804, 1, 8), (6805, 1, 8)],
+        1_048_575,
+        6805,
+    ),
+];
+
+// Commits the last group, and opens the device with the gate behind it closed and open.
+fn ends_there(rt: &impl Abort, alloc: Global, runs: Runs<'_>, gate: usize, count: u64) -> MemDisk {
+    let mut store = full_device(rt, alloc);
+    takes(rt, alloc, &mut store, runs);
+    let store = reopened(rt, alloc, store);
+    has(rt, &store, (0, 1), (count, 1, Some(1)), "a closed gate");
+    let mut disk = store.into_disk();
+    let gate = FIRST_AREA.wrapping_add(gate);
+    shows(rt, &mut disk, gate, "00 00");
+    let disk = spoilt(rt, disk, gate, 1);
+    is_refused(rt, alloc, disk, OpenRefused::Damaged, "an open gate")
 }
 
 #[test]
 fn a_group_fits_by_one_byte(rt: HostRuntime) {
     let alloc = rt.alloc();
     let rt = &rt;
-    let mut store = full_device(rt, alloc);
-    // 21 requests with 320 ops, 3,097 bytes
-    takes(rt, alloc, &mut store, &[(6785, 19, 16), (6804, 2, 8)]);
-    let mut disk = store.into_disk();
-    // the record's gate, and the next one in the last byte of the area, 1,048,575
-    shows(rt, &mut disk, 1_577_958, "01 00000c14 0015");
-    shows(rt, &mut disk, 1_581_055, "00 00");
-    opens(rt, alloc, disk, (0, 1), (6805, 1, Some(1)), "opened");
+    for (runs, gate, count) in &LAST {
+        let mut disk = ends_there(rt, alloc, runs, *gate, *count);
+        if *count == 6805 {
+            shows(rt, &mut disk, LAST_GATE, "01 00000c14 0015");
+        }
+    }
 }
 
 // 64 requests, from each of so many nodes to the 16 nodes behind 16,367.
@@ -121,14 +167,14 @@ fn takes_edges(rt: &impl Abort, alloc: Global, store: &mut Store<MemDisk>, first
 // The nodes of the first edge and of the last one.
 const FIRST: (u16, u16) = (0, 16_368);
 
-const LAST: (u16, u16) = (4095, 16_383);
+const LAST_EDGE: (u16, u16) = (4095, 16_383);
 
 #[test]
 fn rolls_the_most_edges(rt: HostRuntime) {
     let alloc = rt.alloc();
     let rt = &rt;
     let mut store = crowded(rt, alloc);
-    has(rt, &store, LAST, (4096, 65_536, Some(16)), "edges");
+    has(rt, &store, LAST_EDGE, (4096, 65_536, Some(16)), "edges");
     rolls(rt, alloc, &mut store);
     let mut disk = store.into_disk();
     // gate, epoch 2, count, nodes, number of edges, the tickets of sessions 0 and 1; the first edge; and the last, which ends 524,823
@@ -140,5 +186,10 @@ fn rolls_the_most_edges(rt: HostRuntime) {
     shows(rt, &mut disk, 2_105_871, "0fff 3fff 00000010 00");
     let store = opened(rt, alloc, disk);
     has(rt, &store, FIRST, (4096, 65_536, Some(1)), "opened");
-    ends(rt, store, LAST, (4096, 65_536, Some(16)), "opened");
+    has(rt, &store, LAST_EDGE, (4096, 65_536, Some(16)), "opened");
+    // one edge more, in its place and in the number of edges
+    let mut disk = store.into_disk();
+    put_text(rt, &mut disk, 2_105_879, "1000 3ff0 00000001");
+    let disk = spoilt(rt, disk, 1_581_078, 1);
+    is_refused(rt, alloc, disk, OpenRefused::Damaged, "an edge too many");
 }

@@ -5,7 +5,7 @@ ghost use Rattle.layout_2.specs.State.{changes_of, AreInTurn};
 
 use super::*;
 
-// Where the header names the nodes, where the slots begin, their edges and their journals; and the bytes of a journal's area.
+// Where the slots begin, their edges and their journals.
 
 pub(super) const FIRST_SLOT: usize = 4096;
 
@@ -19,13 +19,8 @@ pub(super) const SECOND_EDGES: usize = 1_581_591;
 
 pub(super) const SECOND_AREA: usize = 2_109_440;
 
-pub(super) const ROOM: usize = 1_048_576;
-
 // Count, edges and the weight of one edge.
 pub(super) type Shown = (u64, usize, Option<u32>);
-
-// Two nodes and the weight of an edge between them, as a device holds them.
-pub(super) type Edge = (u16, u16, u32);
 
 // An op under the session and the ticket of its request.
 pub(super) type Asked = (u8, u64, Op);
@@ -60,23 +55,21 @@ pub(super) fn opened(rt: &impl Abort, alloc: Global, disk: MemDisk) -> Store<Mem
     got(rt, stand_ins::opened(alloc, disk))
 }
 
-// Why a device can't be opened.
-fn refusal(alloc: Global, disk: MemDisk) -> Option<OpenRefused> {
-    match stand_ins::opened(alloc, disk) {
-        Ok(_) => None,
-        Err((refused, _)) => Some(refused),
-    }
-}
-
-// Sees why a device can't be opened.
+// Sees why a device can't be opened, and gives it back.
 pub(super) fn is_refused(
     rt: &impl Abort,
     alloc: Global,
     disk: MemDisk,
     want: OpenRefused,
     name: &str,
-) {
-    same(rt, refusal(alloc, disk), Some(want), name);
+) -> MemDisk {
+    match stand_ins::opened(alloc, disk) {
+        Ok(_) => panic!(rt; "{name}: opened"),
+        Err((refused, disk)) => {
+            same(rt, refused, want, name);
+            disk
+        }
+    }
 }
 
 // Formats a device.
@@ -88,16 +81,6 @@ pub(super) fn formats(
     name: &str,
 ) {
     same(rt, format(disk, nodes), want, name);
-}
-
-// The first bytes of a device, as a device of its own.
-pub(super) fn cut_to(rt: &impl Abort, alloc: Global, disk: MemDisk, len: usize) -> MemDisk {
-    let mut bytes = got(rt, vec![in alloc; 0; len]);
-    let mut disk = disk;
-    reads(rt, &mut disk, 0, bytes.as_mut_slice());
-    let mut front = blank(rt, alloc, len);
-    put(rt, &mut front, 0, bytes.as_slice());
-    front
 }
 
 // ---- requests
@@ -269,18 +252,6 @@ pub(super) fn answer_to(
     commit(rt, alloc, store, &group)
 }
 
-// Sees that a commit of a list of ops is refused.
-pub(super) fn refuses(
-    rt: &impl Abort,
-    alloc: Global,
-    store: &mut Store<MemDisk>,
-    asked: &[Asked],
-    want: CommitRefused,
-    name: &str,
-) {
-    same(rt, answer_to(rt, alloc, store, asked), Err(want), name);
-}
-
 // Commits a list of ops.
 pub(super) fn commits(rt: &impl Abort, alloc: Global, store: &mut Store<MemDisk>, asked: &[Asked]) {
     got(rt, answer_to(rt, alloc, store, asked));
@@ -367,7 +338,7 @@ fn reads(rt: &impl Abort, disk: &mut MemDisk, at: usize, bytes: &mut [u8]) {
     got(rt, stand_ins::read_at(disk, at, bytes));
 }
 
-fn bytes<const N: usize>(rt: &impl Abort, disk: &mut MemDisk, at: usize) -> [u8; N] {
+pub(super) fn bytes<const N: usize>(rt: &impl Abort, disk: &mut MemDisk, at: usize) -> [u8; N] {
     let mut bytes = [0; N];
     reads(rt, disk, at, &mut bytes);
     bytes
@@ -396,76 +367,12 @@ pub(super) fn shows(rt: &impl Abort, disk: &mut MemDisk, at: usize, text: &str) 
     same(rt, (at, found), (at, true), text);
 }
 
-// The same of a device that is used no more.
-pub(super) fn ends_in(rt: &impl Abort, disk: MemDisk, at: usize, text: &str) {
-    let mut disk = disk;
-    shows(rt, &mut disk, at, text)
-}
-
 // Sees that a device has so many times eight zeros.
 pub(super) fn shows_zeros(rt: &impl Abort, disk: &mut MemDisk, at: usize, eights: usize) {
     for i in 0..eights {
         let place = at.wrapping_add(i.wrapping_mul(8));
         same(rt, bytes::<8>(rt, disk, place), [0; 8], "zeros");
     }
-}
-
-// What stands before the tickets of a slot.
-#[derive(Clone, Copy, Debug)]
-pub(super) struct Head {
-    pub(super) gate: u8,
-    pub(super) epoch: u64,
-    pub(super) count: u64,
-    pub(super) nodes: u16,
-    pub(super) edges: u32,
-}
-
-// Puts the head of the slot that begins at `at`.
-pub(super) fn put_head(rt: &impl Abort, disk: &mut MemDisk, at: usize, head: Head) {
-    put(rt, disk, at, &[head.gate]);
-    put(rt, disk, at.wrapping_add(1), &head.epoch.to_be_bytes());
-    put(rt, disk, at.wrapping_add(9), &head.count.to_be_bytes());
-    put(rt, disk, at.wrapping_add(17), &head.nodes.to_be_bytes());
-    put(rt, disk, at.wrapping_add(19), &head.edges.to_be_bytes());
-}
-
-// Puts an edge, its nodes as they are given.
-pub(super) fn put_edge(rt: &impl Abort, disk: &mut MemDisk, at: usize, edge: Edge) {
-    let (a, b, weight) = edge;
-    put(rt, disk, at, &a.to_be_bytes());
-    put(rt, disk, at.wrapping_add(2), &b.to_be_bytes());
-    put(rt, disk, at.wrapping_add(4), &weight.to_be_bytes());
-}
-
-// The store of a device, or none where it is damaged; no other refusal may be the answer.
-pub(super) fn store_of(
-    rt: &impl Abort,
-    alloc: Global,
-    disk: MemDisk,
-    name: &str,
-) -> Option<Store<MemDisk>> {
-    match stand_ins::opened(alloc, disk) {
-        Ok(store) => Some(store),
-        Err((refused, _)) => {
-            same(rt, refused, OpenRefused::Damaged, name);
-            None
-        }
-    }
-}
-
-// Opens a device, and sees that it is damaged, or that it shows this of 0-1.
-pub(super) fn assert_opens(
-    rt: &impl Abort,
-    alloc: Global,
-    disk: MemDisk,
-    want: Option<Shown>,
-    name: &str,
-) {
-    let found = match store_of(rt, alloc, disk, name) {
-        Some(store) => Some(shown(&store, 0, 1)),
-        None => None,
-    };
-    same(rt, found, want, name);
 }
 
 // A number that the bytes of a device give: another one where one byte is another.

@@ -3,10 +3,13 @@ use super::*;
 
 // The length of a device, what it begins with, and why it is no store. A device of layout 1 is of another version, whatever its
 // length.
-const NO_STORES: [(usize, &str, OpenRefused); 7] = [
+const NO_STORES: [(usize, &str, OpenRefused); 10] = [
     (9, "", OpenRefused::NotFormatted),
+    (9, "545a4e4f4445 3032 00", OpenRefused::NotFormatted),
     (10, "", OpenRefused::NotFormatted),
+    (10, "545a4e4f4445 3032 0005", OpenRefused::Damaged),
     (2_371_584, "545a4e4f4445 3031 0005", OpenRefused::BadVersion),
+    (3_158_015, "545a4e4f4445 3032 0005", OpenRefused::Damaged),
     (3_158_016, "545a4e4f4445 3031 0005", OpenRefused::BadVersion),
     (3_158_016, "545a4e4f4445 3039 0005", OpenRefused::BadVersion),
     (
@@ -17,49 +20,18 @@ const NO_STORES: [(usize, &str, OpenRefused); 7] = [
     (3_158_016, "545a4e4f4445 3032 0005", OpenRefused::Damaged),
 ];
 
-// The length that a store's device is cut to, and why that is no store.
-const CUTS: [(usize, OpenRefused); 3] = [
-    (9, OpenRefused::NotFormatted),
-    (10, OpenRefused::Damaged),
-    (3_158_015, OpenRefused::Damaged),
-];
-
 // The sync of an opening comes first: where it fails, that is told, whatever stands on the device.
-fn tells_the_sync(rt: &impl Abort, alloc: Global, disk: MemDisk) {
-    let mut disk = disk;
-    disk.fail_at(1);
-    is_refused(rt, alloc, disk, OpenRefused::Device, "a sync that fails");
-}
-
-// A device of so many bytes that begins with what a text spells.
-fn begun(rt: &impl Abort, alloc: Global, len: usize, text: &str) -> MemDisk {
-    let mut disk = blank(rt, alloc, len);
-    put_text(rt, &mut disk, 0, text);
-    disk
-}
-
 #[test]
 fn refuses_what_is_no_store(rt: HostRuntime) {
     let alloc = rt.alloc();
     let rt = &rt;
     for (len, text, want) in &NO_STORES {
-        let disk = begun(rt, alloc, *len, text);
-        is_refused(rt, alloc, disk, *want, text);
-        tells_the_sync(rt, alloc, begun(rt, alloc, *len, text));
-    }
-    for (len, want) in &CUTS {
-        let cut = cut_to(rt, alloc, with_edge(rt, alloc), *len);
-        is_refused(rt, alloc, cut, *want, "cut");
-        let cut = cut_to(rt, alloc, with_edge(rt, alloc), *len);
-        tells_the_sync(rt, alloc, cut);
-    }
-}
-
-// Why an opening is refused that has to be, and the device.
-fn refused(rt: &impl Abort, alloc: Global, disk: MemDisk) -> (OpenRefused, MemDisk) {
-    match stand_ins::opened(alloc, disk) {
-        Ok(_) => panic!(rt; "opened though a call failed"),
-        Err(refused) => refused,
+        for (call, want) in [(1, OpenRefused::Device), (0, *want)].iter() {
+            let mut disk = blank(rt, alloc, *len);
+            put_text(rt, &mut disk, 0, text);
+            disk.fail_at(*call);
+            is_refused(rt, alloc, disk, *want, text);
+        }
     }
 }
 
@@ -99,8 +71,7 @@ fn assert_long(rt: &impl Abort, store: &Store<MemDisk>) {
 fn stopped(rt: &impl Abort, alloc: Global, disk: MemDisk, plan: Plan, before: u64) -> MemDisk {
     let mut disk = disk;
     disk.arm(plan);
-    let (answer, mut disk) = refused(rt, alloc, disk);
-    same(rt, answer, OpenRefused::Device, "a call fails");
+    let mut disk = is_refused(rt, alloc, disk, OpenRefused::Device, "a call fails");
     disk.arm(Plan::None);
     same(rt, digest(rt, &mut disk), before, "nothing is written");
     // a byte that was written and not synced would be 255 after this crash

@@ -1,13 +1,36 @@
-// Rolling: its bytes, its refusals, and every failure of the device inside a roll.
+// Rolling: its bytes, what is kept of tickets, its refusals, and every failure of the device inside a roll.
 use super::*;
 
-// 543 bytes: gate, epoch, count, nodes and number of edges, ticket 1 of session 0, those of the others, and the edge; and what stays.
-const ROLLED: [(usize, &str); 5] = [
+// Tickets of three sessions, some left out.
+const ASKED: [Asked; 4] = [
+    (0, 3, Op::Add(0, 1, 1)),
+    (63, 258, Op::Add(1, 2, 2)),
+    (0, 7, Op::Set(0, 1, 5)),
+    (7, WORN_LIMIT, Op::Add(2, 3, 3)),
+];
+
+// The device of a store that has these changes.
+fn kept(rt: &impl Abort, store: Store<MemDisk>, name: &str) -> MemDisk {
+    let first = [store.resume(0), store.resume(1), store.resume(7)];
+    same(rt, first, [7, 0, WORN_LIMIT], name);
+    same(rt, [store.resume(62), store.resume(63)], [0, 258], name);
+    has(rt, &store, (0, 1), (4, 3, Some(5)), name);
+    store.into_disk()
+}
+
+// Gate, epoch, count, nodes and number of edges, and the tickets of sessions 0 and 1; those of 7, and of 62 and 63; the edges; a byte
+// behind them, and the journal's gate; and the gate of the other slot.
+const ROLLED: [(usize, &str); 7] = [
     (
         1_581_056,
-        "01 0000000000000002 0000000000000001 0005 00000001 0000000000000001",
+        "01 0000000000000002 0000000000000004 0005 00000003 0000000000000007 0000000000000000",
     ),
-    (1_581_591, "0000 0001 00000001 00"),
+    (1_581_135, "7fffffffffffffff"),
+    (1_581_575, "0000000000000000 0000000000000102"),
+    (
+        1_581_591,
+        "0000 0001 00000005 0001 0002 00000002 0002 0003 00000003 00",
+    ),
     (1_581_700, "00"),
     (2_109_440, "00"),
     (4096, "01"),
@@ -17,17 +40,20 @@ const ROLLED: [(usize, &str); 5] = [
 fn rolls_into_the_other_slot(rt: HostRuntime) {
     let alloc = rt.alloc();
     let rt = &rt;
+    let mut store = opened(rt, alloc, formatted(rt, alloc, 5));
+    same(rt, store.starts(), [0; 64], "fresh");
+    commits(rt, alloc, &mut store, &ASKED);
     // what is left in the other slot from before counts for nothing
-    let disk = spoilt(rt, with_edge(rt, alloc), 1_581_700, 7);
+    let disk = spoilt(rt, kept(rt, store, "committed"), 1_581_700, 7);
     let mut store = opened(rt, alloc, spoilt(rt, disk, 2_109_440, 1));
     rolls(rt, alloc, &mut store);
-    has(rt, &store, (0, 1), (1, 1, Some(1)), "rolled");
-    let mut disk = store.into_disk();
+    let mut disk = kept(rt, store, "rolled");
     for (at, text) in &ROLLED {
         shows(rt, &mut disk, *at, text);
     }
-    shows_zeros(rt, &mut disk, 1_581_087, 63);
-    opens(rt, alloc, disk, (0, 1), (1, 1, Some(1)), "opened");
+    shows_zeros(rt, &mut disk, 1_581_087, 6);
+    shows_zeros(rt, &mut disk, 1_581_143, 54);
+    let _disk = kept(rt, opened(rt, alloc, disk), "opened");
 }
 
 #[test]

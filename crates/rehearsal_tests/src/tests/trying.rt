@@ -22,11 +22,7 @@ fn lists_the_calls_of_the_last_life(rt: HostRuntime) {
 fn trial(call: u64, put: usize, acknowledged: u64, opened: u64) -> StopFound {
     StopFound {
         stop: Stop { call, put },
-        kind: Kind {
-            found: 0,
-            acknowledged,
-            opened,
-        },
+        kind: kind(0, acknowledged, opened),
     }
 }
 
@@ -58,15 +54,4 @@ fn tries_one_stop(rt: HostRuntime) {
         let found = got(rt, try_stop(alloc, &mut rehearsal, want.stop));
         same(rt, found, *want, "a trial");
     }
-}
-
-#[test]
-fn prints_trials(rt: HostRuntime) {
-    let text = got(&rt, trials_text(rt.alloc(), 31, &trials()));
-    let want = "stops=3 of=31
-found=0 acknowledged=0 opened=0 stops=1
-found=0 acknowledged=0 opened=1 stops=1
-found=0 acknowledged=1 opened=1 stops=1
-";
-    same(&rt, text.as_str(), want, "the table");
 }

@@ -125,47 +125,27 @@ fn other_packets_and_places_are_refused(rt: HostRuntime) {
     let short = cut_at(rt, &packet, 42);
     let mut out = [7; PACKET_SIZE];
     let no_room = Err(BytesRefused::NoRoom);
-    same(
-        rt,
-        hop_bytes(table, &packet, &mut out[..42]),
-        no_room,
-        "a short place",
-    );
+    let found = hop_bytes(table, &packet, &mut out[..42]);
+    same(rt, found, no_room, "a short place");
     let launched = launch_bytes(table, short, &mut out[..42]);
     same(rt, launched, Err(BytesRefused::NoRoom), "a short place");
     let told = address_bytes(table, &mut out);
     same(rt, told, Err(BytesRefused::NoRoom), "a long place");
     let bad_length = Err(BytesRefused::Wire(WireRefused::BadLength));
-    same(
-        rt,
-        hop_bytes(table, short, &mut out),
-        bad_length,
-        "a short packet",
-    );
-    let launched = launch_bytes(table, &packet, &mut out);
-    same(
-        rt,
-        launched,
-        Err(BytesRefused::Wire(WireRefused::BadLength)),
-        "a long address",
-    );
+    let found = hop_bytes(table, short, &mut out);
+    same(rt, found, bad_length, "a short packet");
+    let refused = launch_bytes(table, &packet, &mut out).err();
+    let wire = BytesRefused::Wire(WireRefused::BadLength);
+    same(rt, refused, Some(wire), "a long address");
     let mut many = packet;
     many[16] = 14;
     let bad_count = Err(BytesRefused::Wire(WireRefused::BadCount));
-    same(
-        rt,
-        hop_bytes(table, &many, &mut out),
-        bad_count,
-        "too many ports",
-    );
+    let found = hop_bytes(table, &many, &mut out);
+    same(rt, found, bad_count, "too many ports");
     let mut padded = packet;
     padded[42] = 1;
     let bad_padding = Err(BytesRefused::Wire(WireRefused::BadPadding));
-    same(
-        rt,
-        hop_bytes(table, &padded, &mut out),
-        bad_padding,
-        "a place that isn't used",
-    );
+    let found = hop_bytes(table, &padded, &mut out);
+    same(rt, found, bad_padding, "a place that isn't used");
     assert!(rt; out == [7; PACKET_SIZE], "nothing written");
 }

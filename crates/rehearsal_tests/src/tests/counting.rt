@@ -17,8 +17,7 @@ fn lists_the_stops_of_calls(rt: HostRuntime) {
 fn notes_the_calls_since_it_was_armed(rt: HostRuntime) {
     let alloc = rt.alloc();
     let rt = &rt;
-    let disk = got(rt, MemDisk::new(alloc, 16));
-    let mut disk = Watched::new(alloc, disk);
+    let mut disk = Watched::new(alloc, got(rt, MemDisk::new(alloc, 16)));
     got(rt, disk.sync());
     disk.arm(Plan::Fail(2));
     assert!(rt; disk.len() == 16);
@@ -44,8 +43,7 @@ fn widest() -> Call {
 fn notes_the_calls_over_a_crash(rt: HostRuntime) {
     let alloc = rt.alloc();
     let rt = &rt;
-    let disk = got(rt, MemDisk::new(alloc, 16));
-    let mut disk = Watched::new(alloc, disk);
+    let mut disk = Watched::new(alloc, got(rt, MemDisk::new(alloc, 16)));
     got(rt, disk.sync());
     let disk = disk.crash(0);
     let calls = got(rt, disk.into_calls());
@@ -57,14 +55,6 @@ fn notes_the_calls_over_a_crash(rt: HostRuntime) {
         u64::MAX,
         "the most",
     );
-}
-
-const fn kind(found: u64, acknowledged: u64, opened: u64) -> Kind {
-    Kind {
-        found,
-        acknowledged,
-        opened,
-    }
 }
 
 // Seven trials of four kinds, of which each two differ in one number.

@@ -1,10 +1,10 @@
 // Every table of sample and drawn networks and every packet, by view and by `RouterTable`.
-use crate::helpers::{files_of, got, same};
+use crate::helpers::{Edge, RING, files_of, got, same, scheme_at, tables_of};
 use packet_bytes::{ADDRESS_SIZE, PACKET_SIZE, Wire};
 use rand_core::{Rng, SeedableRng};
 use rand_xoshiro::Xoshiro256PlusPlus;
 use router_table::RouterTable;
-use sample_networks::{PAIRS, PATH, RING, TRIANGLE, drawn_edges, drawn_nodes};
+use sample_networks::{PAIRS, PATH, TRIANGLE, drawn_edges, drawn_nodes};
 use schemes::{Address, Home, Move, NodeRows, Packet, Refused};
 use std::alloc::Global;
 use std::process::Abort;
@@ -142,14 +142,11 @@ fn compare_from(
 }
 
 /// All tables of a network under these landmarks.
-fn compare(rt: &impl Abort, alloc: Global, files: &[Vec<u8>]) {
-    let mut tables = Vec::new(alloc);
+fn compare(rt: &impl Abort, alloc: Global, nodes: u16, edges: &[Edge], at: &[u16]) {
+    let files = files_of(rt, alloc, &scheme_at(rt, alloc, nodes, edges, at));
+    let tables = tables_of(rt, alloc, files.as_slice());
     let mut views = Vec::new(alloc);
-    for file in files {
-        got(
-            rt,
-            tables.push(got(rt, RouterTable::read(alloc, file.as_slice()))),
-        );
+    for file in files.as_slice() {
         got(rt, views.push(got(rt, TableView::read(file.as_slice()))));
     }
     for (table, view) in tables.iter().zip(views.iter()) {
@@ -169,8 +166,7 @@ fn views_answer_as_tables_do(rt: HostRuntime) {
         let none: &[u16] = &[];
         let all: &[u16] = &[0, 1, 2, 3, 4, 5, 6, 7, 8, 9];
         for at in [none, some.as_slice(), all] {
-            let files = files_of(rt, alloc, nodes, edges.as_slice(), at);
-            compare(rt, alloc, files.as_slice());
+            compare(rt, alloc, nodes, edges.as_slice(), at);
         }
     }
 }
@@ -189,8 +185,7 @@ fn views_answer_as_tables_do_in_the_sample_networks(rt: HostRuntime) {
         (9, RING.as_slice()),
     ] {
         for at in [none, one, two] {
-            let files = files_of(rt, alloc, nodes, edges, at);
-            compare(rt, alloc, files.as_slice());
+            compare(rt, alloc, nodes, edges, at);
         }
     }
 }
@@ -203,6 +198,5 @@ fn views_answer_as_tables_do_in_a_larger_network(rt: HostRuntime) {
     let mut rng = Xoshiro256PlusPlus::seed_from_u64(97);
     let edges = got(rt, drawn_edges(alloc, &mut rng, 20, 9, (2, 10)));
     let at = got(rt, drawn_nodes(alloc, &mut rng, 20, (3, 24)));
-    let files = files_of(rt, alloc, 20, edges.as_slice(), at.as_slice());
-    compare(rt, alloc, files.as_slice());
+    compare(rt, alloc, 20, edges.as_slice(), at.as_slice());
 }
