@@ -1,18 +1,18 @@
 # Draws the pictures of docs/PERFORMANCE.md out of the CSV files beside it:  cd docs/plots && gnuplot plots.gnuplot
 set datafile separator ","
-set terminal svg size 720,440 font "sans-serif,13" background "#ffffff"
-set key left top
+set terminal svg size 720,480 font "sans-serif,13" background "#ffffff"
+set key below
+set offsets graph 0.03, graph 0.03
 set grid lc rgb "#dddddd"
 set style data linespoints
 set border 3
 set tics nomirror
 
 set output "tables.svg"
-set title "Bytes of a node's table"
-set xlabel "nodes"
+set title "Bytes of a node's table, under draw:1"
+set xlabel "nodes\n "
 set ylabel "bytes"
 set logscale xy 2
-set xrange [900:18000]
 plot "tables.csv" using ($1):($2) title "full table, 2 bytes a node" lw 2 lc rgb "#888888", \
      "" using ($1):($3) title "drawn network, mean" lw 2 lc rgb "#1f77b4", \
      "" using ($1):($4) title "drawn network, greatest" lw 1 dt 2 lc rgb "#1f77b4", \
@@ -22,9 +22,8 @@ unset logscale
 set autoscale x
 
 set output "landmarks.svg"
-set title "The largest table, under landmarks that are drawn (dashed) or chosen"
+set title "Bytes of the largest table: landmarks of draw:1 (dashed) or of tzlab landmarks"
 set logscale xy 2
-set xrange [900:18000]
 # The rows of a kind under landmarks of a kind.
 rows(kind, by) = sprintf("< grep '^%s,.*,%s,' landmarks.csv", kind, by)
 plot "tables.csv" using 1:2 title "full table, 2 bytes a node" lw 2 lc rgb "#888888", \
@@ -37,22 +36,23 @@ set autoscale x
 
 set output "stretch.svg"
 set title "Stretch of routes: 4,096 nodes, 400 pairs, sorted"
-set xlabel "pairs, percent"
+set xlabel "pairs, percent\n "
 set ylabel "length over the shortest"
 set xrange [0:100]
+set offsets 0, 0
 set yrange [0.9:3.1]
 plot "stretch.csv" using 1:2 title "drawn" with lines lw 2 lc rgb "#1f77b4", \
      "" using 1:3 title "power law" with lines lw 2 lc rgb "#d62728", \
      "" using 1:4 title "grid" with lines lw 2 lc rgb "#2ca02c", \
      3 title "proved bound" with lines lw 1 dt 2 lc rgb "#888888"
 set autoscale xy
+set offsets graph 0.03, graph 0.03
 
 set output "builds.svg"
 set title "Building the tables of a drawn network"
-set xlabel "nodes"
+set xlabel "nodes\n "
 set ylabel "milliseconds"
 set logscale xy 2
-set xrange [900:18000]
 plot "builds.csv" using 1:5 title "one search a node, as a full table needs" lw 2 lc rgb "#888888", \
      "" using 1:2 title "tznode, one worker" lw 2 lc rgb "#1f77b4", \
      "" using 1:3 title "tznode, four workers" lw 2 lc rgb "#17becf", \
@@ -62,9 +62,8 @@ set autoscale xy
 
 set output "commits.svg"
 set title "Edits a second, each on the disk before it is answered"
-set xlabel "sessions at once"
+set xlabel "sessions at once\n "
 set ylabel "edits a second"
 set logscale x 2
-set xrange [0.9:70]
 set yrange [0:*]
 plot "commits.csv" using 1:2 title "tznode serve, 16 nodes" lw 2 lc rgb "#1f77b4"
