@@ -1,139 +1,68 @@
-// Drawn lives, judged by the plain one.
+// Drawn lives, judged by the slow machine.
 use super::*;
-use crate::tests::judge::{FRESH, NODES, PLACES, Plain, SEATS, State};
-use rand_core::{Rng, SeedableRng};
-use rand_xoshiro::Xoshiro256PlusPlus;
 
-// Draws words, and keeps each session's greatest ticket.
-#[derive(Drop)]
-struct Drawer {
-    rng: Xoshiro256PlusPlus,
-    tickets: [u64; SEATS],
-}
+const SEATS: usize = 3;
 
-impl Drawer {
-    // A number below a limit, none where the limit is 0.
-    fn below(&mut self, limit: u16) -> u16 {
-        let word = self.rng.next_u64();
-        u16::try_from(word.checked_rem(limit as u64).unwrap_or(0)).unwrap_or(0)
-    }
+const PLACES: usize = 2;
 
-    // A node, or one time in 32 one that isn't there.
-    fn node(&mut self) -> u16 {
-        if self.below(32) == 0 {
-            NODES
-        } else {
-            self.below(4)
-        }
-    }
+const NODES: u16 = 4;
 
-    // An op, and one that may follow it.
-    fn ops(&mut self) -> [Op; 2] {
-        let (a, b) = (self.node(), self.node());
-        let weight = 1 + self.below(9) as u32;
-        let first = match self.below(5) {
-            0 => Op::Cut(a, b),
-            1 | 2 => Op::Set(a, b, weight),
-            _ => Op::Add(a, b, weight),
-        };
-        let second = match (first, self.below(8)) {
-            (_, 0) => Op::Add(b, a, weight),
-            (Op::Cut(_, _), _) => Op::Add(b, a, weight),
-            (_, 1) => Op::Cut(b, a),
-            _ => Op::Set(b, a, 10),
-        };
-        [first, second]
-    }
-
-    // A ticket next to the session's greatest, which may have been lost in a crash.
-    fn ticket(&mut self, session: u8) -> u64 {
-        if self.below(64) == 0 {
-            return u64::MAX;
-        }
-        let drawn = self.below(8);
-        let Some(last) = self.tickets.get_mut(session as usize) else {
-            return 1;
-        };
-        let ticket = match drawn {
-            0 => last.saturating_sub(1),
-            1 | 2 => *last,
-            3 => last.wrapping_add(2),
-            _ => last.wrapping_add(1),
-        };
-        *last = ticket.max(*last);
-        ticket
-    }
-
-    fn event(&mut self, rt: &impl Abort, alloc: Global) -> Event {
-        let session = u8::try_from(self.below(4).min(self.below(4))).unwrap_or(0);
-        match self.below(16) {
-            0..=4 => submit(rt, session, self.ticket(session), &self.ops()),
-            5..=7 => Event::Look {
-                session,
-                at: self.below(40) as usize,
-            },
-            8..=10 => Event::Take,
-            11 | 12 => Event::Commit,
-            13 | 14 => Event::Post,
-            _ => Event::Rebuild {
-                words: Vec::new(alloc),
-            },
-        }
-    }
-
-    fn plan(&mut self) -> Plan {
-        let call = 1 + self.below(12) as u64;
-        match self.below(4) {
-            0 => Plan::Fail(call),
-            1 => Plan::Stop(call, self.below(60) as usize),
-            _ => Plan::None,
-        }
-    }
-
-    fn word(&mut self) -> u64 {
-        match self.below(6) {
-            0 => 0,
-            1 => 1,
-            2 => 256,
-            3 | 4 => 257,
-            _ => self.below(60_000) as u64,
-        }
-    }
-
-    fn life(&mut self, rt: &impl Abort, alloc: Global) -> Life {
-        let mut events = Vec::new(alloc);
-        for _ in 0..40u8 {
-            got(rt, events.push(self.event(rt, alloc)));
-        }
-        Life {
-            sessions: SEATS,
-            capacity: PLACES,
-            words: Vec::new(alloc),
-            events,
-            plan: self.plan(),
-            word: self.word(),
-        }
+fn plan_of(drawer: &mut Drawer) -> Plan {
+    let call = 1 + drawer.below(12) as u64;
+    match drawer.below(4) {
+        0 => Plan::Fail(call),
+        1 => Plan::Stop(call, drawer.below(60) as usize),
+        _ => Plan::None,
     }
 }
 
-// What a life opened to.
-fn state_of(rt: &impl Abort, life: &LifeReport) -> State {
-    let mut state = FRESH;
-    state.count = life.count;
-    let mut edges = 0usize;
-    for a in 0..4u16 {
-        for b in 0..4u16 {
-            if let (true, Some(weight)) = (a < b, life.graph.weight(a, b)) {
-                state.weights[(4 * a + b) as usize] = weight;
-                edges = edges.wrapping_add(1);
-            }
-        }
+fn word_of(drawer: &mut Drawer) -> u64 {
+    match drawer.below(6) {
+        0 => 0,
+        1 => 1,
+        2 => 256,
+        3 | 4 => 257,
+        _ => drawer.below(60_000) as u64,
     }
-    same(rt, life.graph.edges(), edges, "edges");
-    let (three, others) = life.tickets.split_at(SEATS);
-    state.tickets.copy_from_slice(three);
-    same(rt, others, &[0; 61], "sessions that asked nothing");
-    state
+}
+
+// A life of forty events.
+fn drawn_life(rt: &impl Abort, alloc: Global, drawer: &mut Drawer) -> Life {
+    let mut events = Vec::new(alloc);
+    for _ in 0..40u8 {
+        got(rt, events.push(got(rt, drawer.event(rt, alloc))));
+    }
+    Life {
+        sessions: SEATS,
+        capacity: PLACES,
+        words: Vec::new(alloc),
+        events,
+        plan: plan_of(drawer),
+        word: word_of(drawer),
+    }
+}
+
+// Whether a life opened to this.
+fn opened_to(life: &LifeReport, state: &State) -> bool {
+    life.count == state.count && life.tickets == state.tickets && state.graph.is(&life.graph)
+}
+
+// What a life opened to: what the one before has, or may have left.
+fn state_of(
+    rt: &impl Abort,
+    alloc: Global,
+    life: &LifeReport,
+    before: &SlowMachine,
+    tally: &mut Tally,
+) -> State {
+    if opened_to(life, &before.state) {
+        return got(rt, before.state.copy(alloc));
+    }
+    tally.kept = tally.kept.wrapping_add(1);
+    match &before.lost {
+        Some(lost) if opened_to(life, lost) => got(rt, lost.copy(alloc)),
+        _ => panic!(rt; "what a crash left"),
+    }
 }
 
 fn times(list: &[(u8, u64)], wanted: &(u8, u64)) -> usize {
@@ -173,7 +102,7 @@ fn count(tally: &mut Tally, reply: Reply) {
     *place = place.wrapping_add(1);
 }
 
-// A plain life beside one that was reported, which has to have opened to what the one before may have left: each answer is the same.
+// A slow machine beside a life that was reported, which opened to this: each answer is the same.
 fn judged(
     rt: &impl Abort,
     alloc: Global,
@@ -181,22 +110,26 @@ fn judged(
     lived: &LifeReport,
     opened: State,
     tally: &mut Tally,
-) -> Plain {
-    let generation = opened.count;
-    same(rt, lived.rebuilt, Reply::Rebuilt { generation }, "rebuilt");
+) -> SlowMachine {
+    let mut slow = begun(rt, alloc, opened, life.plan);
+    let rebuilt = got(rt, slow.rebuild(alloc));
+    same(rt, lived.rebuilt, rebuilt, "rebuilt");
     same(rt, lived.replies.len(), life.events.len(), "replies");
-    let mut plain = Plain::new(rt, alloc, opened, life.plan);
     for (event, reply) in life.events.iter().zip(lived.replies.iter()) {
-        same(rt, *reply, plain.answer(rt, event), "a reply");
+        let good = got(rt, slow.judges(alloc, event, *reply));
+        same(rt, (*reply, good), (*reply, true), "a reply");
         count(tally, *reply);
     }
-    plain
+    slow
+}
+
+fn begun(rt: &impl Abort, alloc: Global, state: State, plan: Plan) -> SlowMachine {
+    got(rt, SlowMachine::new(alloc, state, SEATS, PLACES, plan))
 }
 
 // Puts the tickets in that a crash has left, as many as the count rose.
-fn join(rt: &impl Abort, joined: &mut Vec<(u8, u64)>, plain: &Plain, started: u64, opened: u64) {
-    let kept = opened.wrapping_sub(started) as usize;
-    let Some(tickets) = plain.accepted.get(..kept) else {
+fn join(rt: &impl Abort, joined: &mut Vec<(u8, u64)>, slow: &SlowMachine, kept: u64) {
+    let Some(tickets) = slow.accepted.get(..kept as usize) else {
         panic!(rt; "more than was accepted");
     };
     got(rt, joined.extend_from_slice(tickets));
@@ -205,34 +138,25 @@ fn join(rt: &impl Abort, joined: &mut Vec<(u8, u64)>, plain: &Plain, started: u6
 // Judges lives that all opened.
 fn judge(rt: &impl Abort, alloc: Global, asked: &[Life], report: &LivesReport, tally: &mut Tally) {
     let mut joined = Vec::new(alloc);
-    let mut started = 0;
-    let mut plain = Plain::new(rt, alloc, FRESH, Plan::None);
+    let mut started = 0u64;
+    let mut slow = begun(rt, alloc, State::first(alloc, NODES), Plan::None);
     for (life, lived) in asked.iter().zip(report.lives.iter()) {
-        let opened = state_of(rt, lived);
-        if opened != plain.state {
-            same(rt, opened, plain.lost, "what a crash left");
-            tally.kept = tally.kept.wrapping_add(1);
-        }
-        join(rt, &mut joined, &plain, started, opened.count);
-        are_in_once(rt, &joined, &plain.acknowledged(rt, alloc));
+        let opened = state_of(rt, alloc, lived, &slow, tally);
+        join(rt, &mut joined, &slow, opened.count.wrapping_sub(started));
+        are_in_once(rt, &joined, &got(rt, slow.acknowledged(alloc)));
         are_in_once(rt, &joined, &joined);
         started = opened.count;
-        plain = judged(rt, alloc, life, lived, opened, tally);
+        slow = judged(rt, alloc, life, lived, opened, tally);
     }
 }
 
 // Three drawn lives and one that only opens. Of each eighth list a call of the first opening may fail, and of no other one.
 fn lives_as_drawn(rt: &impl Abort, alloc: Global, list: u64, tally: &mut Tally) {
-    let mut drawer = Drawer {
-        rng: Xoshiro256PlusPlus::seed_from_u64(list),
-        tickets: [0; SEATS],
-    };
+    let mut drawer = Drawer::new(list, NODES, SEATS as u16);
     let mut asked = lives_of(rt, alloc, &[OPENING]);
     for place in 0..3usize {
-        got(
-            rt,
-            asked.insert(place.min(asked.len()), drawer.life(rt, alloc)),
-        );
+        let life = drawn_life(rt, alloc, &mut drawer);
+        got(rt, asked.insert(place.min(asked.len()), life));
     }
     let mut disk = formatted(rt, alloc, NODES);
     let is_armed = list % 8 == 0;

@@ -143,12 +143,6 @@ pub(super) fn lived(rt: &impl Abort, alloc: Global, disk: MemDisk, asked: &[Life
     report
 }
 
-// The same of a table, on a fresh device for five nodes.
-pub(super) fn ran(rt: &impl Abort, alloc: Global, asked: &[Asked]) -> LivesReport {
-    let asked = lives_of(rt, alloc, asked);
-    lived(rt, alloc, formatted(rt, alloc, 5), &asked)
-}
-
 // What the events of a life were answered; nothing where there is no such life.
 pub(super) fn told(report: &LivesReport, place: usize) -> &[Reply] {
     match report.lives.get(place) {

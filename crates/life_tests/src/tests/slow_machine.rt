@@ -1,37 +1,61 @@
 // A plain slow machine, and what it answers to editors and the committer.
-use crate::plain_graph::PlainGraph;
-use crate::slow_routes::Packet;
-use event_runs::{Event, Reply};
-use generations::{Mark, Verdict};
-use graph_edits::{Change, Op};
-use group_commit::DeskRefused;
-use intake::{Outcome, SubmitRefused};
-use std::alloc::{AllocError, Global};
+use super::*;
+use crate::tests::slow_routes::Packet;
 
-/// What a session has seen, and the last ticket that it submitted.
+// What a store has.
+#[derive(Drop)]
+pub(super) struct State {
+    pub(super) graph: PlainGraph,
+    pub(super) count: u64,
+    pub(super) tickets: [u64; 64],
+}
+
+impl State {
+    // That of a new device.
+    pub(super) fn first(alloc: Global, nodes: u16) -> State {
+        State {
+            graph: PlainGraph {
+                nodes,
+                edges: Vec::new(alloc),
+            },
+            count: 0,
+            tickets: [0; 64],
+        }
+    }
+
+    pub(super) fn copy(&self, alloc: Global) -> Result<State, AllocError> {
+        Ok(State {
+            graph: self.graph.copy(alloc)?,
+            count: self.count,
+            tickets: self.tickets,
+        })
+    }
+}
+
+// What a session has seen, and the last ticket that it submitted.
 #[derive(Clone, Copy, Drop)]
-pub(crate) struct Seat {
+pub(super) struct Seat {
     seen: usize,
     last: Option<u64>,
 }
 
-/// A request that was let in.
+// A request that was let in.
 #[derive(Drop)]
-pub(crate) struct Asked {
+pub(super) struct Asked {
     session: u8,
     ticket: u64,
     ops: Vec<Op>,
 }
 
-/// What was told to all in one step.
+// What was told to all in one step.
 #[derive(Drop)]
-pub(crate) enum News {
+pub(super) enum News {
     Marks(Vec<Mark>),
     Down,
     Generation(u64, PlainGraph),
 }
 
-/// What a session sees.
+// What a session sees.
 #[derive(Clone, Copy, Drop)]
 struct View {
     last: Option<Mark>,
@@ -39,37 +63,46 @@ struct View {
     down: bool,
 }
 
-/// All that is held, in plain lists. Nothing is ever taken out of one.
+// All that is held, in plain lists. Nothing is ever taken out of one.
 #[derive(Drop)]
-pub(crate) struct SlowMachine {
-    pub graph: PlainGraph,
-    pub count: u64,
-    pub capacity: usize,
-    /// Which call of the device fails, counted from 1, where one does.
-    pub failing: Option<u64>,
-    /// How many calls there were.
+pub(super) struct SlowMachine {
+    // The last tickets of before.
+    starts: [u64; 64],
+    // What the store has, and what it would have with the group in whose commit the device failed.
+    pub(super) state: State,
+    pub(super) lost: Option<State>,
+    // The accepted requests, those of that group behind the others.
+    pub(super) accepted: Vec<(u8, u64)>,
+    capacity: usize,
+    // Which call of the device fails, counted from 1, where one does.
+    failing: Option<u64>,
+    // How many calls there were.
     calls: u64,
     down: bool,
     seats: Vec<Seat>,
     asked: Vec<Asked>,
     taken: usize,
     done: usize,
-    pub news: Vec<News>,
+    pub(super) news: Vec<News>,
     due: Option<News>,
-    /// How many of the news the forwarder has seen.
-    pub seen: usize,
-    pub packets: Vec<Packet>,
+    // How many of the news the forwarder has seen.
+    pub(super) seen: usize,
+    pub(super) packets: Vec<Packet>,
 }
 
 impl SlowMachine {
-    /// A machine over an empty graph.
-    pub(crate) fn new(
+    // A machine over this state, of whose device a call may fail or stop.
+    pub(super) fn new(
         alloc: Global,
-        nodes: u16,
+        state: State,
         sessions: usize,
         capacity: usize,
-        failing: Option<u64>,
+        plan: Plan,
     ) -> Result<SlowMachine, AllocError> {
+        let failing = match plan {
+            Plan::None => None,
+            Plan::Fail(call) | Plan::Stop(call, _) => Some(call),
+        };
         let mut seats = Vec::new(alloc);
         for _ in 0..sessions {
             seats.push(Seat {
@@ -78,11 +111,10 @@ impl SlowMachine {
             })?;
         }
         Ok(SlowMachine {
-            graph: PlainGraph {
-                nodes,
-                edges: Vec::new(alloc),
-            },
-            count: 0,
+            starts: state.tickets,
+            state,
+            lost: None,
+            accepted: Vec::new(alloc),
             capacity,
             failing,
             calls: 0,
@@ -98,8 +130,8 @@ impl SlowMachine {
         })
     }
 
-    /// Whether the event may be answered so. It goes on as if it was.
-    pub(crate) fn judges(
+    // Whether the event may be answered so. It goes on as if it was.
+    pub(super) fn judges(
         &mut self,
         alloc: Global,
         event: &Event,
@@ -121,8 +153,8 @@ impl SlowMachine {
         }
     }
 
-    /// How many of the news one has seen that had seen some and now looks at so many.
-    pub(crate) fn further(&self, seen: usize, at: usize) -> usize {
+    // How many of the news one has seen that had seen some and now looks at so many.
+    pub(super) fn further(&self, seen: usize, at: usize) -> usize {
         let there = if at < self.news.len() {
             at
         } else {
@@ -135,7 +167,7 @@ impl SlowMachine {
     fn view(&self, session: u8, seen: usize) -> View {
         let mut view = View {
             last: None,
-            accepted: 0,
+            accepted: self.starts.get(session as usize).copied().unwrap_or(0),
             down: false,
         };
         for (place, news) in self.news.iter().enumerate() {
@@ -227,21 +259,25 @@ impl SlowMachine {
         if self.down {
             return Ok(Reply::NotCommitted(DeskRefused::Down));
         }
-        let mut graph = self.graph.copy(alloc)?;
-        let mut count = self.count;
+        let mut next = self.state.copy(alloc)?;
         let mut marks = Vec::new(alloc);
         let mut accepted = 0usize;
         for place in self.done..self.taken {
             if let Some(asked) = self.asked.get(place) {
-                let verdict = match graph.make_all(alloc, asked.ops.as_slice())? {
+                let (session, ticket) = (asked.session, asked.ticket);
+                let verdict = match next.graph.make_all(alloc, asked.ops.as_slice())? {
                     Some((op, code)) => Verdict::Refused { op, code },
                     None => {
-                        count = count.saturating_add(1);
+                        next.count = next.count.saturating_add(1);
+                        if let Some(last) = next.tickets.get_mut(session as usize) {
+                            *last = ticket;
+                        }
+                        self.accepted.push((session, ticket))?;
                         accepted = accepted.saturating_add(1);
+                        let count = next.count;
                         Verdict::Accepted { count }
                     }
                 };
-                let (session, ticket) = (asked.session, asked.ticket);
                 marks.push(Mark {
                     session,
                     ticket,
@@ -251,11 +287,11 @@ impl SlowMachine {
         }
         if accepted > 0 && self.writes() {
             self.down = true;
+            self.lost = Some(next);
             self.due = Some(News::Down);
             return Ok(Reply::NotCommitted(DeskRefused::Device));
         }
-        self.graph = graph;
-        self.count = count;
+        self.state = next;
         self.done = self.taken;
         self.due = Some(News::Marks(marks));
         Ok(Reply::Committed { accepted })
@@ -281,7 +317,7 @@ impl SlowMachine {
         }
     }
 
-    fn rebuild(&mut self, alloc: Global) -> Result<Reply, AllocError> {
+    pub(super) fn rebuild(&mut self, alloc: Global) -> Result<Reply, AllocError> {
         if self.down {
             return Ok(Reply::NotRebuilt);
         }
@@ -292,12 +328,27 @@ impl SlowMachine {
                 newest = Some(*number);
             }
         }
-        let generation = self.count;
+        let generation = self.state.count;
         if newest != Some(generation) {
-            let graph = self.graph.copy(alloc)?;
+            let graph = self.state.graph.copy(alloc)?;
             self.news.push(News::Generation(generation, graph))?;
         }
         Ok(Reply::Rebuilt { generation })
+    }
+
+    // The changes that were told as accepted.
+    pub(super) fn acknowledged(&self, alloc: Global) -> Result<Vec<(u8, u64)>, AllocError> {
+        let mut all = Vec::new(alloc);
+        for news in &self.news {
+            if let News::Marks(marks) = news {
+                for mark in marks {
+                    if let Verdict::Accepted { count: _ } = mark.verdict {
+                        all.push((mark.session, mark.ticket))?;
+                    }
+                }
+            }
+        }
+        Ok(all)
     }
 }
 

@@ -1,20 +1,5 @@
 // The way of one change and of one packet, worked out by hand.
-use crate::worlds::{answer, fresh, rebuild_at_two, submit};
-use disk_trait::Plan;
-use event_runs::{Event, Reply};
-use forwarders::Refused;
-use graph_edits::Op;
-use intake::{Outcome, SubmitRefused};
-use std::alloc::{AllocError, Global};
-use std::process::Abort;
-use std::test::Fail;
-
-const PATH: [Op; 4] = [
-    Op::Add(0, 1, 1),
-    Op::Add(1, 2, 1),
-    Op::Add(2, 3, 1),
-    Op::Add(3, 4, 1),
-];
+use super::*;
 
 fn events(rt: &impl Abort, alloc: Global) -> Result<Vec<Event>, AllocError> {
     let mut events = Vec::new(alloc);
@@ -47,7 +32,7 @@ fn replies() -> [Reply; 16] {
         Reply::Posted,
         Reply::Looked(Outcome::Accepted { ticket, count }),
         Reply::Rebuilt { generation: 1 },
-        Reply::NotRouted(Refused::GenerationGone),
+        Reply::NotRouted(RouteRefused::GenerationGone),
         Reply::Launched { packet: 0 },
         Reply::Forwarded { port: 0, next: 1 },
         Reply::Forwarded { port: 1, next: 2 },

@@ -2,29 +2,10 @@
 ghost use Rattle.std.specs.Prelude.{◌≡◌, ◌≤◌, [], None};
 ghost use Rattle.group_commit.specs.DeskWords.{held_of, due_of};
 
-use checkpoint::{DEVICE_LEN, Store, format};
-use disk_trait::{Disk, MemDisk, Plan};
-use event_runs::{Event, Reply};
-use graph_edits::{Change, Op};
-use group_commit::Desk;
-use interleave::World;
-use std::alloc::{AllocError, Global};
-use std::process::Abort;
+use super::*;
 
 // Where the checkpoint of a fresh device has its count.
 const COUNT: usize = 4105;
-
-// A fresh device for so many nodes, but for its count.
-fn device(alloc: Global, nodes: u16, count: u64) -> Result<MemDisk, AllocError> {
-    let mut disk = MemDisk::new(alloc, DEVICE_LEN)?;
-    let Ok(()) = format(&mut disk, nodes) else {
-        return Err(AllocError);
-    };
-    if disk.len() < COUNT + 8 || disk.write_at(COUNT, &count.to_be_bytes()).is_err() {
-        return Err(AllocError);
-    }
-    Ok(disk)
-}
 
 fn made(
     alloc: Global,
@@ -36,14 +17,20 @@ fn made(
     requires sessions { (1 ≤ sessions) × (sessions ≤ 64) }
     requires capacity { (1 ≤ capacity) × (capacity ≤ 64) }
 {
-    let Ok(store) = Store::open(alloc, device(alloc, nodes, count)?) else {
+    let Ok(mut disk) = stand_ins::formatted(alloc, nodes) else {
+        return Err(AllocError);
+    };
+    if stand_ins::put(&mut disk, COUNT, &count.to_be_bytes()).is_err() {
+        return Err(AllocError);
+    }
+    let Ok(store) = stand_ins::opened(alloc, disk) else {
         return Err(AllocError);
     };
     World::new(alloc, Desk::new(store), sessions, capacity)
 }
 
-/// A world over a fresh device for so many nodes, but for its count; made once more where memory was refused.
-pub(crate) fn counted(
+// A world over a fresh device for so many nodes, but for its count; made once more where memory was refused.
+pub(super) fn counted(
     rt: &impl Abort,
     alloc: Global,
     nodes: u16,
@@ -63,8 +50,8 @@ pub(crate) fn counted(
     world
 }
 
-/// A world over a fresh device for so many nodes.
-pub(crate) fn fresh(
+// A world over a fresh device for so many nodes.
+pub(super) fn fresh(
     rt: &impl Abort,
     alloc: Global,
     nodes: u16,
@@ -78,8 +65,8 @@ pub(crate) fn fresh(
     counted(rt, alloc, nodes, 0, sessions, capacity, plan)
 }
 
-/// What one event is answered. It is run once more where memory was refused.
-pub(crate) fn answer(
+// What one event is answered. It is run once more where memory was refused.
+pub(super) fn answer(
     rt: &impl Abort,
     alloc: Global,
     world: &mut World<MemDisk>,
@@ -96,17 +83,8 @@ pub(crate) fn answer(
     reply
 }
 
-/// A submit of these ops.
-pub(crate) fn submit(rt: &impl Abort, session: u8, ticket: u64, ops: &[Op]) -> Event {
-    Event::Submit {
-        session,
-        ticket,
-        change: Change::new(ops).expect(rt, "a change"),
-    }
-}
-
-/// A rebuild by words that make node 2 a landmark.
-pub(crate) fn rebuild_at_two(alloc: Global) -> Result<Event, AllocError> {
+// A rebuild by words that make node 2 a landmark.
+pub(super) fn rebuild_at_two(alloc: Global) -> Result<Event, AllocError> {
     Ok(Event::Rebuild {
         words: Vec::from_slice(alloc, &[u64::MAX, u64::MAX, 0])?,
     })

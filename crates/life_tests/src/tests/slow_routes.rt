@@ -1,13 +1,9 @@
 // What the slow machine answers to forwarders, and which steps of a packet it takes for good.
-use crate::plain_graph::PlainGraph;
-use crate::slow_machine::{News, SlowMachine};
-use event_runs::Reply;
-use forwarders::Refused;
-use std::alloc::{AllocError, Global};
+use super::*;
 
-/// A packet that was sent: the number of its generation, where it came from and stands, and how far it has gone.
+// A packet that was sent: the number of its generation, where it came from and stands, and how far it has gone.
 #[derive(Clone, Copy, Drop)]
-pub(crate) struct Packet {
+pub(super) struct Packet {
     generation: u64,
     from: u16,
     to: u16,
@@ -49,8 +45,8 @@ impl SlowMachine {
         if later < 4 { found } else { None }
     }
 
-    /// What a launch is answered.
-    pub(crate) fn launch(
+    // What a launch is answered.
+    pub(super) fn launch(
         &mut self,
         alloc: Global,
         from: u16,
@@ -59,13 +55,13 @@ impl SlowMachine {
     ) -> Result<Reply, AllocError> {
         self.seen = self.further(self.seen, at);
         let Some((generation, graph)) = self.newest(self.seen) else {
-            return Ok(Reply::NotRouted(Refused::GenerationGone));
+            return Ok(Reply::NotRouted(RouteRefused::GenerationGone));
         };
         if from >= graph.nodes || to >= graph.nodes {
-            return Ok(Reply::NotRouted(Refused::NoNode));
+            return Ok(Reply::NotRouted(RouteRefused::NoNode));
         }
         if graph.distance(alloc, from, to)?.is_none() {
-            return Ok(Reply::NotRouted(Refused::Unreachable));
+            return Ok(Reply::NotRouted(RouteRefused::Unreachable));
         }
         let packet = self.packets.len();
         self.packets.push(Packet {
@@ -80,10 +76,10 @@ impl SlowMachine {
         Ok(Reply::Launched { packet })
     }
 
-    /// Whether a hop may be answered so: a packet at its destination is delivered; any other one goes to a neighbour in the graph of
-    /// its own generation, by that neighbour's port, on a walk with at most as many edges as there are other nodes, and at
-    /// most three times as long as the shortest.
-    pub(crate) fn hop(
+    // Whether a hop may be answered so: a packet at its destination is delivered; any other one goes to a neighbour in the graph of
+    // its own generation, by that neighbour's port, on a walk with at most as many edges as there are other nodes, and at
+    // most three times as long as the shortest.
+    pub(super) fn hop(
         &mut self,
         alloc: Global,
         number: usize,
@@ -98,7 +94,7 @@ impl SlowMachine {
         }
         self.seen = self.further(self.seen, at);
         let Some(graph) = self.graph_of(packet.generation, self.seen) else {
-            return Ok(reply == Reply::NotRouted(Refused::GenerationGone));
+            return Ok(reply == Reply::NotRouted(RouteRefused::GenerationGone));
         };
         let good = if packet.at == packet.to {
             packet.there = false;

@@ -1,32 +1,29 @@
 // Drawn lists of a thousand events, judged by the slow machine.
-use crate::slow_machine::SlowMachine;
-use crate::worlds::fresh;
-use disk_trait::{MemDisk, Plan};
-use event_runs::{Event, Reply};
-use forwarders::Refused;
-use graph_edits::{Change, Op};
-use intake::{Outcome, SubmitRefused};
-use interleave::World;
-use rand_core::{Rng, SeedableRng};
-use rand_xoshiro::Xoshiro256PlusPlus;
-use requests::WORN_LIMIT;
-use std::alloc::{AllocError, Global};
-use std::process::Abort;
-use std::test::Fail;
+use super::*;
 
-/// Draws words, and remembers what it needs to draw events that make sense.
+// Draws words, and remembers what it needs to draw events that make sense.
 #[derive(Drop)]
-struct Drawer {
+pub(super) struct Drawer {
     rng: Xoshiro256PlusPlus,
     nodes: u16,
     sessions: u16,
-    /// Each session's last drawn ticket.
+    // Each session's last drawn ticket.
     tickets: [u64; 4],
     launches: u16,
 }
 
 impl Drawer {
-    fn below(&mut self, limit: u16) -> u16 {
+    pub(super) fn new(seed: u64, nodes: u16, sessions: u16) -> Drawer {
+        Drawer {
+            rng: Xoshiro256PlusPlus::seed_from_u64(seed),
+            nodes,
+            sessions,
+            tickets: [0; 4],
+            launches: 0,
+        }
+    }
+
+    pub(super) fn below(&mut self, limit: u16) -> u16 {
         let word = self.rng.next_u64();
         if limit == 0 {
             0
@@ -108,7 +105,7 @@ impl Drawer {
         Ok(words)
     }
 
-    fn event(&mut self, rt: &impl Abort, alloc: Global) -> Result<Event, AllocError> {
+    pub(super) fn event(&mut self, rt: &impl Abort, alloc: Global) -> Result<Event, AllocError> {
         let at = self.below(300) as usize;
         Ok(match self.below(24) {
             0..=4 => self.submit(rt),
@@ -139,7 +136,7 @@ impl Drawer {
     }
 }
 
-/// The place of a reply in the tally.
+// The place of a reply in the tally.
 fn kind(reply: Reply) -> usize {
     match reply {
         Reply::Submitted { ticket: _ } => 0,
@@ -174,9 +171,9 @@ fn kind(reply: Reply) -> usize {
         Reply::Rebuilt { generation: _ } => 15,
         Reply::NotRebuilt => 16,
         Reply::Launched { packet: _ } => 17,
-        Reply::NotRouted(Refused::GenerationGone) => 18,
-        Reply::NotRouted(Refused::Unreachable) => 19,
-        Reply::NotRouted(Refused::NoNode) => 20,
+        Reply::NotRouted(RouteRefused::GenerationGone) => 18,
+        Reply::NotRouted(RouteRefused::Unreachable) => 19,
+        Reply::NotRouted(RouteRefused::NoNode) => 20,
         Reply::Forwarded { port: _, next: _ } => 21,
         Reply::Delivered => 22,
         Reply::Idle => 23,
@@ -219,27 +216,18 @@ fn judged(
 // What is stored in the end is as the slow machine has it.
 fn end_alike(rt: &impl Abort, world: World<MemDisk>, slow: &SlowMachine, list: u64) {
     let (stored, desk) = world.into_parts();
-    let store = desk.store();
+    let (store, state) = (desk.store(), &slow.state);
     assert!(rt; stored.postings.len() == slow.news.len(), "list {list}");
-    assert!(rt; store.count() == slow.count, "list {list}");
-    assert!(rt;
-        store.graph().edges() == slow.graph.edges.len(),
-        "list {list}"
-    );
-    for (a, b, weight) in &slow.graph.edges {
-        assert!(rt;
-            store.graph().weight(*a, *b) == Some(*weight),
-            "list {list}"
-        );
-    }
+    assert!(rt; store.count() == state.count, "list {list}");
+    assert!(rt; state.graph.is(store.graph()), "list {list}");
 }
 
-// The call of the device that fails, if one does.
-fn failing_call(rng: &mut Xoshiro256PlusPlus, list: u64) -> Option<u64> {
+// Of each fourth list a call of the device fails.
+fn plan_of(rng: &mut Xoshiro256PlusPlus, list: u64) -> Plan {
     if list % 4 == 1 {
-        Some(1 + rng.next_u64() % 24)
+        Plan::Fail(1 + rng.next_u64() % 24)
     } else {
-        None
+        Plan::None
     }
 }
 
@@ -254,20 +242,10 @@ fn one_list(
     let nodes = (1 + rng.next_u64() % 5) as u16;
     let sessions = (1 + rng.next_u64() % 3) as u16;
     let capacity = (1 + rng.next_u64() % 3) as usize;
-    let failing = failing_call(rng, list);
-    let drawer = Drawer {
-        rng: Xoshiro256PlusPlus::seed_from_u64(rng.next_u64()),
-        nodes,
-        sessions,
-        tickets: [0; 4],
-        launches: 0,
-    };
-    let events = thousand(rt, alloc, drawer)?;
-    let plan = match failing {
-        Some(call) => Plan::Fail(call),
-        None => Plan::None,
-    };
-    let mut slow = SlowMachine::new(alloc, nodes, sessions as usize, capacity, failing)?;
+    let plan = plan_of(rng, list);
+    let events = thousand(rt, alloc, Drawer::new(rng.next_u64(), nodes, sessions))?;
+    let state = State::first(alloc, nodes);
+    let mut slow = SlowMachine::new(alloc, state, sessions as usize, capacity, plan)?;
     let mut world = fresh(rt, alloc, nodes, sessions as usize, capacity, plan);
     let replies = world.run(alloc, events.as_slice())?;
     judged(rt, alloc, &mut slow, &events, &replies, tally, list)?;

@@ -1,28 +1,25 @@
 // A graph as a list of its edges, and what ops do to it.
-use graph_edits::{Code, Op};
-use std::alloc::{AllocError, Global};
+use super::*;
 
-/// Two nodes, in any order, and the weight of the edge between them.
-pub(crate) type Edge = (u16, u16, u32);
-
-/// A graph of nodes numbered from 0.
+// A graph of nodes numbered from 0.
 #[derive(Drop)]
-pub(crate) struct PlainGraph {
-    pub nodes: u16,
-    pub edges: Vec<Edge>,
+pub(super) struct PlainGraph {
+    pub(super) nodes: u16,
+    // Two nodes each, in any order, and the weight of the edge between them.
+    pub(super) edges: Vec<(u16, u16, u32)>,
 }
 
 impl PlainGraph {
-    /// The same graph.
-    pub(crate) fn copy(&self, alloc: Global) -> Result<PlainGraph, AllocError> {
+    // The same graph.
+    pub(super) fn copy(&self, alloc: Global) -> Result<PlainGraph, AllocError> {
         Ok(PlainGraph {
             nodes: self.nodes,
             edges: Vec::from_slice(alloc, self.edges.as_slice())?,
         })
     }
 
-    /// The weight of the edge between two nodes, if there is one.
-    pub(crate) fn weight(&self, x: u16, y: u16) -> Option<u32> {
+    // The weight of the edge between two nodes, if there is one.
+    pub(super) fn weight(&self, x: u16, y: u16) -> Option<u32> {
         for (a, b, weight) in &self.edges {
             if (*a == x && *b == y) || (*a == y && *b == x) {
                 return Some(*weight);
@@ -31,7 +28,17 @@ impl PlainGraph {
         None
     }
 
-    /// Why an op is refused.
+    // Whether a graph has just these edges.
+    pub(super) fn is(&self, graph: &Graph) -> bool {
+        for (a, b, weight) in &self.edges {
+            if graph.weight(*a, *b) != Some(*weight) {
+                return false;
+            }
+        }
+        graph.edges() == self.edges.len()
+    }
+
+    // Why an op is refused.
     fn refused(&self, op: Op) -> Option<Code> {
         let (a, b, weight) = match op {
             Op::Add(a, b, weight) | Op::Set(a, b, weight) => (a, b, Some(weight)),
@@ -53,7 +60,7 @@ impl PlainGraph {
         }
     }
 
-    /// Makes an op that isn't refused.
+    // Makes an op that isn't refused.
     fn make(&mut self, alloc: Global, op: Op) -> Result<(), AllocError> {
         let (x, y, new) = match op {
             Op::Add(a, b, weight) | Op::Set(a, b, weight) => (a, b, Some(weight)),
@@ -72,8 +79,8 @@ impl PlainGraph {
         Ok(())
     }
 
-    /// Makes all ops; or tells the place of the first that is refused, and why.
-    pub(crate) fn make_all(
+    // Makes all ops; or tells the place of the first that is refused, and why.
+    pub(super) fn make_all(
         &mut self,
         alloc: Global,
         ops: &[Op],
@@ -89,8 +96,8 @@ impl PlainGraph {
         Ok(None)
     }
 
-    /// The neighbour behind a port, with the weight of the edge: ports go over the neighbours in ascending order.
-    pub(crate) fn behind(&self, x: u16, port: u16) -> Option<(u16, u32)> {
+    // The neighbour behind a port, with the weight of the edge: ports go over the neighbours in ascending order.
+    pub(super) fn behind(&self, x: u16, port: u16) -> Option<(u16, u32)> {
         let mut left = port;
         for y in 0..self.nodes {
             if let Some(weight) = self.weight(x, y) {
@@ -103,8 +110,8 @@ impl PlainGraph {
         None
     }
 
-    /// The distance between two nodes, where there is a walk: Bellman and Ford's search.
-    pub(crate) fn distance(
+    // The distance between two nodes, where there is a walk: Bellman and Ford's search.
+    pub(super) fn distance(
         &self,
         alloc: Global,
         from: u16,
@@ -124,7 +131,7 @@ impl PlainGraph {
     }
 }
 
-/// Lowers the distance of a node to the one over an edge, where that is less.
+// Lowers the distance of a node to the one over an edge, where that is less.
 fn offer(distances: &mut [Option<u64>], from: u16, to: u16, weight: u32) {
     let Some(start) = distances.get(from as usize).copied().flatten() else {
         return;
