@@ -14,6 +14,7 @@ mod backups;
 mod commits;
 mod formats;
 mod full;
+mod groups;
 mod helpers;
 mod memory;
 mod openings;
