@@ -76,6 +76,7 @@ pub(crate) fn answer(graph: &Graph, scheme: &Scheme, is_sound: bool) -> Result<(
     ensures exact { IsExact graph.now scheme.now result }
     ensures serves { OnOk result (Serves graph.now (tables scheme.now)) }
 {
+    // It tells that the graph is sound.
     let _sound = graph.nodes();
     if is_sound {
         return Ok(());

@@ -7,7 +7,7 @@ use Rattle.disk_trait.specs.Disk.{DiskView, MayLeave, LeavesOnly, started, weake
 use Rattle.layout_2.specs.Records.{AllSpell, IsBeforeOrAfter}
 use Rattle.journal.specs.Records.{entries_of}
 use Rattle.layout_2.specs.Layout.{worn_limit, slot_start, journal_of, journal_room, journal_start}
-use Rattle.layout_parts.specs.Heads.{other}
+use Rattle.layout_reader.specs.Heads.{other}
 use Rattle.layout_2.specs.State.{State, after, AreInTurn}
 use Rattle.layout_2.specs.Standing.{StandsBy, StandsFor}
 use Rattle.checkpoint.specs.declared.store.Store.{Store}

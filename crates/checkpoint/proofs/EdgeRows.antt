@@ -4,7 +4,7 @@ use Rattle.std.specs.List.{flat_map}
 use Rattle.std.proofs.lemmas.List.{flat_map_more}
 use Rattle.graph_edits.specs.Edges.{Network, below, neighbours_of}
 use Rattle.graph_edits.proofs.EdgeRows.{rows_are_entries}
-use Rattle.layout_parts.specs.EdgeTexts.{edge_text, edges_text}
+use Rattle.layout_reader.specs.EdgeTexts.{edge_text, edges_text}
 use Rattle.layout_2.specs.State.{IsLawful}
 use Rattle.checkpoint.specs.Rolling.{up_text}
 

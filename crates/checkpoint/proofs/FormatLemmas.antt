@@ -7,14 +7,14 @@ use Rattle.disk_trait.specs.Disk.{bytes_at, overwritten}
 use Rattle.graph_edits.specs.Edges.{pair_cmp}
 use Rattle.layout_2.specs.Layout.{device_len, worn_limit, most_nodes, sessions, header, journal_start, slot_start}
 use Rattle.layout_2.specs.State.{first_state, checkpoint_text, tickets_text, edge_text, IsLawful, AreTickets}
-use Rattle.layout_parts.specs.Heads.{head_text}
+use Rattle.layout_reader.specs.Heads.{head_text}
 use Rattle.checkpoint.specs.Formatting.{first_slot}
 use Rattle.layout_2.specs.Slots.{HasCheckpoint}
 use Rattle.layout_2.specs.Standing.{StandsFor}
-use Rattle.layout_parts.proofs.EdgeLemmas.{no_entries}
+use Rattle.layout_reader.proofs.EdgeLemmas.{no_entries}
 use Rattle.layout_2.proofs.Texts.{length_text}
 use Rattle.layout_2.proofs.Folds.{after-nil}
-use Rattle.layout_parts.proofs.HeadLemmas.{gate_and}
+use Rattle.layout_reader.proofs.HeadLemmas.{gate_and}
 
 -- bytes written, and then others
 pub written_twice : (v0 v1 v2 : List ℕ) (a b : ℕ) (xs ys first second : List ℕ) → v1 ≡ overwritten v0 a xs → v2 ≡ overwritten v1 b ys → xs ≡ first → ys ≡ second

@@ -15,8 +15,8 @@ use Rattle.graph_edits.proofs.EdgesOfRows.{pair_total, pair_same}
 use Rattle.graph_edits.proofs.Ops.{HasEnds, add_passed, set_passed}
 use Rattle.graph_edits.proofs.Applied.{count_fits, count_step, count_few}
 use Rattle.layout_2.specs.State.{State, state_with, changes_of, asked, after, IsLawful}
-use Rattle.layout_parts.specs.EdgeTexts.{IsEdge}
-use Rattle.layout_parts.proofs.Results.{some_is, ok_is}
+use Rattle.layout_reader.specs.EdgeTexts.{IsEdge}
+use Rattle.layout_reader.proofs.Results.{some_is, ok_is}
 
 -- the edges of a network of so many nodes
 abbrev Edges : ℕ → EdgeMap → Type 0

@@ -16,7 +16,7 @@ use Rattle.checkpoint.specs.Kept.{IsKept}
 use Rattle.checkpoint.specs.StoreWords.{state_of, view_of, is_down}
 use Rattle.layout_2.specs.InUse.{IsInUse}
 use Rattle.layout_2.specs.Layout.{worn_limit, checkpoint_room, slot_start, epoch_at, header, journal_start}
-use Rattle.layout_parts.specs.Heads.{other}
+use Rattle.layout_reader.specs.Heads.{other}
 use Rattle.requests.specs.Tickets.{sessions, tickets_after}
 use Rattle.layout_2.specs.State.{State, state_with, changes_of, asked, checkpoint_text, after, IsLawful, AreInTurn, AreTickets}
 use Rattle.layout_2.specs.Standing.{StandsBy, StandsFor}
@@ -25,7 +25,7 @@ use Rattle.checkpoint.proofs.LawfulEdits.{lawful_after}
 use Rattle.checkpoint.proofs.Turns.{sound_after}
 use Rattle.layout_2.proofs.Texts.{text_fits, length_text}
 use Rattle.layout_2.proofs.Folds.{after-nil, nodes_fold}
-use Rattle.layout_parts.proofs.Results.{some_is}
+use Rattle.layout_reader.proofs.Results.{some_is}
 use Rattle.checkpoint.proofs.TornSlots.{apart, slots_apart, stays}
 
 -- requests keep the number of nodes

@@ -4,7 +4,7 @@ use Rattle.disk_trait.specs.Disk.{Torn, bytes_at}
 use Rattle.disk_trait.specs.Places.{below, above, byte_below, byte_above}
 use Rattle.layout_2.specs.Records.{Entry, Spells, still_spells}
 use Rattle.layout_2.specs.Layout.{slot_start, journal_of, epoch_at, journal_room, journal_start, slot_room}
-use Rattle.layout_parts.specs.Heads.{other}
+use Rattle.layout_reader.specs.Heads.{other}
 use Rattle.layout_2.specs.State.{State, checkpoint_text}
 use Rattle.layout_2.specs.Standing.{StandsBy}
 use Rattle.layout_2.proofs.Texts.{text_fits}

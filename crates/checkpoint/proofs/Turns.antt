@@ -12,7 +12,7 @@ use Rattle.requests.proofs.TicketLemmas.{rises_both, stays_wide}
 use Rattle.layout_2.specs.Layout.{worn_limit}
 use Rattle.layout_2.specs.Records.{Entry, entries_of}
 use Rattle.layout_2.specs.State.{State, state_with, changes_of, asked, after, AreInTurn, AreTickets}
-use Rattle.layout_parts.proofs.Results.{some_is}
+use Rattle.layout_reader.proofs.Results.{some_is}
 
 -- ---- the last tickets after requests
 

@@ -3,9 +3,9 @@ use Rattle.std.specs.Prelude.{◌≡◌, ◌<◌, false, IsTrue}
 use Rattle.disk_trait.specs.Disk.{DiskView, IsSameDevice, OnlyRead}
 use Rattle.layout_2.specs.Fronts.{HasOtherVersion, HasThisVersion}
 use Rattle.layout_2.specs.Standing.{StandsFor, StandsForNone}
-use Rattle.layout_parts.specs.Refusals.{IsFormatFault, IsNoDeviceFault, LacksMagic}
-use Rattle.layout_parts.specs.declared.refusals.OpenRefused.{OpenRefused}
-use Rattle.layout_parts.specs.declared.refusals.OpenRefused.TheVariants.{NotFormatted, BadVersion, Damaged, Device, Memory}
+use Rattle.layout_reader.specs.Refusals.{IsFormatFault, IsNoDeviceFault, LacksMagic}
+use Rattle.layout_reader.specs.declared.refusals.OpenRefused.{OpenRefused}
+use Rattle.layout_reader.specs.declared.refusals.OpenRefused.TheVariants.{NotFormatted, BadVersion, Damaged, Device, Memory}
 use Rattle.checkpoint.specs.declared.store.Store.{Store}
 use Rattle.checkpoint.specs.StoreWords.{state_of, view_of, is_down, IsDurable}
 

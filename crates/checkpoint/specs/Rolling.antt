@@ -3,7 +3,7 @@ use Rattle.std.specs.Prelude.{◌≢◌, ◌-◌, ℕ, List, [], ◌++◌, cond,
 use Rattle.disk_trait.specs.Disk.{DiskView, MayLeave, IsTornFrom}
 use Rattle.layout_2.specs.Layout.{checkpoint_room}
 use Rattle.layout_2.specs.State.{State, checkpoint_text}
-use Rattle.layout_parts.specs.EdgeTexts.{edge_text}
+use Rattle.layout_reader.specs.EdgeTexts.{edge_text}
 
 -- a neighbour of a node in a checkpoint: an edge is listed with its smaller node
 abbrev pub up_text : ℕ → ℕ × ℕ → List ℕ

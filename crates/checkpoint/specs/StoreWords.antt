@@ -5,7 +5,7 @@ use Rattle.layout_2.specs.Records.{Entry, HasRoom, LacksRoom}
 use Rattle.checkpoint.specs.declared.store.Store.{Store}
 use Rattle.checkpoint.specs.Kept.{kept_stands}
 use Rattle.layout_2.specs.Layout.{worn_limit}
-use Rattle.layout_parts.specs.Heads.{other}
+use Rattle.layout_reader.specs.Heads.{other}
 use Rattle.layout_2.specs.State.{State, state_with}
 use Rattle.layout_2.specs.Standing.{StandsFor}
 

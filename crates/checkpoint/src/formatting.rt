@@ -2,8 +2,8 @@
 ghost use Rattle.std.specs.Prelude.{◌≡◌, ◌≢◌, ◌≤◌, ◌<◌, ◌+◌, ◌↔◌, ◌∷◌, ℕ, length, get_or, IsTrue, OnOk, OnErr, IsErr, IsErrOf};
 ghost use Rattle.disk_trait.specs.Disk.{AtMostCalls, IsSameDevice, IsSettled, Torn, overwritten, bytes_at};
 ghost use Rattle.layout_2.specs.Layout.{device_len, most_nodes, edges_start, header, journal_start, slot_start};
-ghost use Rattle.layout_parts.specs.Heads.{head_text};
-ghost use Rattle.layout_parts.specs.Refusals.{header_len};
+ghost use Rattle.layout_reader.specs.Heads.{head_text};
+ghost use Rattle.layout_reader.specs.Refusals.{header_len};
 ghost use Rattle.layout_2.specs.State.{first_state};
 ghost use Rattle.layout_2.specs.Standing.{StandsFor};
 ghost use Rattle.checkpoint.specs.Formatting.{first_slot, with_front, with_gates, formatted};

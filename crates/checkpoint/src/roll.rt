@@ -5,8 +5,8 @@ ghost use Rattle.std.specs.FinMap.{len};
 ghost use Rattle.disk_trait.specs.Disk.{AtMostCalls, IsSameDevice, MayLeave, LeavesOnly};
 ghost use Rattle.layout_2.specs.Layout.{checkpoint_room};
 ghost use Rattle.layout_2.specs.State.{state_with, tickets_text, IsLawful};
-ghost use Rattle.layout_parts.specs.EdgeTexts.{edge_text, edges_text};
-ghost use Rattle.layout_parts.specs.Heads.{head_text};
+ghost use Rattle.layout_reader.specs.EdgeTexts.{edge_text, edges_text};
+ghost use Rattle.layout_reader.specs.Heads.{head_text};
 ghost use Rattle.checkpoint.specs.Rolling.{up_text, padding, area_text, IsClosing};
 
 use crate::refusals::RollRefused;

@@ -36,6 +36,7 @@ pub fn cluster(
     ensures degrees { IfOk result (λ cluster.
         cluster.pops ≤ 1 + degrees_of graph.now cluster.members) }
 {
+    // It tells that the graph is sound.
     let _sound = graph.nodes();
     let reach = tree_within(alloc, graph, center, nearest.distances())?;
     Ok(Cluster { reach })
@@ -72,6 +73,7 @@ pub fn cluster_in(
         pops ≤ 1 + degrees_of graph.now (reached_of workspace.new.members)) }
     ensures refused { OnErr result (workspace.new.members ≡ []) }
 {
+    // It tells that the graph is sound.
     let _sound = graph.nodes();
     let pops = workspace.tree_within(graph, center, nearest.distances())?;
     Ok(pops)

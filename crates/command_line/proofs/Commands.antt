@@ -5,8 +5,8 @@ use Rattle.std.proofs.lemmas.List.Elements.{All-nil}
 use Rattle.clap.specs.Walk.{Row, Text, all_of}
 use Rattle.graph_edits.specs.declared.edits.Op.{Op}
 use Rattle.graph_edits.specs.Edges.{most_ops}
-use Rattle.written_values.specs.OpText.{Fits, op_text}
-use Rattle.written_values.specs.WordsText.{words_text}
+use Rattle.value_syntax.specs.OpText.{Fits, op_text}
+use Rattle.value_syntax.specs.WordsText.{words_text}
 use Rattle.command_line.specs.declared.refused.WordsRefused.{WordsRefused}
 use Rattle.command_line.specs.declared.refused.WordsRefused.TheVariants as why
 use Rattle.command_line.specs.declared.task.Task.{Task}

@@ -6,7 +6,7 @@ use Rattle.std.proofs.lemmas.List.Elements.{recursion_from_All}
 use Rattle.std.specs.Borrow.{Bor}
 use Rattle.std.specs.List.{AllByRecursion}
 use Rattle.clap.specs.Walk.{Row, Text, all_of, first_of, texts}
-use Rattle.written_values.proofs.Written.{nowhere, read_at}
+use Rattle.value_syntax.proofs.Written.{nowhere, read_at}
 use Rattle.command_line.specs.Asked.{AreEnds, AreNodes, IsNumber, IsWithin, nodes_of}
 use Rattle.command_line.specs.Readings.{IsNumberRefusal, Reads}
 use Rattle.command_line.specs.declared.refused.WordsRefused.{WordsRefused}

@@ -6,10 +6,10 @@ use Rattle.clap.specs.Simple.{subcommand_of}
 use Rattle.clap.specs.Faults.{fault_of}
 use Rattle.graph_edits.specs.Edges.{most_ops}
 use Rattle.graph_edits.specs.declared.edits.Op.{Op}
-use Rattle.written_values.specs.declared.words.LandmarkWords.{LandmarkWords}
-use Rattle.written_values.specs.OpText.{Fits, op_text}
-use Rattle.written_values.specs.Scripts.{IsChange}
-use Rattle.written_values.specs.WordsText.{IsAsked, IsSame, words_text}
+use Rattle.value_syntax.specs.declared.words.LandmarkWords.{LandmarkWords}
+use Rattle.value_syntax.specs.OpText.{Fits, op_text}
+use Rattle.value_syntax.specs.Scripts.{IsChange}
+use Rattle.value_syntax.specs.WordsText.{IsAsked, IsSame, words_text}
 use Rattle.command_line.specs.declared.refused.WordsRefused.{WordsRefused}
 use Rattle.command_line.specs.declared.refused.WordsRefused.TheVariants as why
 use Rattle.command_line.specs.declared.task.Task.{Task}

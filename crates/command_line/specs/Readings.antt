@@ -3,8 +3,8 @@ use Rattle.std.specs.Prelude.{◌≡◌, ◌⊎◌, List, map, All, Result, IfOk
 use Rattle.clap.specs.Walk.{Row, Text, rows_of}
 use Rattle.clap.specs.Words.{found_of}
 use Rattle.graph_edits.specs.declared.edits.Op.{Op}
-use Rattle.written_values.specs.OpText.{Fits, op_text}
-use Rattle.written_values.specs.WordsText.{IsSame}
+use Rattle.value_syntax.specs.OpText.{Fits, op_text}
+use Rattle.value_syntax.specs.WordsText.{IsSame}
 use Rattle.command_line.specs.Fields.{Field, Landmarks}
 use Rattle.command_line.specs.Asked.{Asks, IsCause, IsSameTask, IsTask, Lacks, ValueOf}
 use Rattle.command_line.specs.declared.arguments.Arguments.{Arguments}

@@ -2,7 +2,7 @@
 ghost use Rattle.std.specs.Prelude.{◌≡◌, ◌↔◌, IfErr, IfOk, IsTrue, List, All, Some, codes, decimal, map, option_map};
 ghost use Rattle.clap.specs.Walk.{all_of, first_of, texts};
 ghost use Rattle.graph_edits.specs.declared.edits.Op.{Op};
-ghost use Rattle.written_values.specs.OpText.{Fits, op_text};
+ghost use Rattle.value_syntax.specs.OpText.{Fits, op_text};
 ghost use Rattle.command_line.specs.Asked.{AreEnds, AreNodes, AreOpsGiven, AreWordsGiven, IsLive, IsNumber, IsOptional, IsUsual, IsWithin, nodes_of};
 ghost use Rattle.command_line.specs.Fields.{Landmarks, Ops};
 ghost use Rattle.command_line.specs.Readings.{IsOpRefusal, IsRead, Reads, rows_in};
@@ -11,7 +11,7 @@ use crate::refused::WordsRefused;
 use clap::ArgMatches;
 use graph_edits::{Change, Op, Shape};
 use std::alloc::Global;
-use written_values::{LandmarkWords, landmark_words, number, op};
+use value_syntax::{LandmarkWords, landmark_words, number, op};
 
 /// The texts of a command's arguments, and where memory comes from to read them.
 #[derive(Drop)]

@@ -15,18 +15,18 @@
 //! | `tables DEVICE FOLDER --words W [--node N]..` | [`Task::Tables`], of the nodes that are named, in order, or of none |
 //!
 //! `clap` reads the words: each command is a subcommand, with none below it, and each value is a text. Numbers, OPs and W are read
-//! from these texts by [`written_values`]. No file is opened and nothing is printed.
+//! from these texts by [`value_syntax`]. No file is opened and nothing is printed.
 //!
 //! The contract that the layer above uses (`Understands` of `specs/Readings`): [`understood`] answers a task that the words ask for by
 //! the program's grammar (`IsAskedFor` of `specs/Asked`, over clap's own account of a parse); the words ask for no other; and where they
 //! ask for one whose numbers are in range, no answer but that task and want of memory comes. A refusal is named by [`WordsRefused`].
 //!
 //! ```text
-//! match understood(alloc, &["show", "d"])? {
+//! match parse_task(alloc, &["show", "d"])? {
 //!     Task::Show { device } => ..          // device is "d"
 //!     ..
 //! }
-//! understood(alloc, &["show"])             // Err(WordsRefused::Usage)
+//! parse_task(alloc, &["show"])             // Err(WordsRefused::Usage)
 //! ```
 #![tactic(auto)]
 
@@ -36,4 +36,4 @@ mod refused;
 mod task;
 
 pub use refused::WordsRefused;
-pub use task::{Task, understood};
+pub use task::{Task, parse_task};

@@ -13,7 +13,7 @@ use clap::error::ErrorKind;
 use graph_edits::Change;
 use requests::{SESSIONS, WORN_LIMIT};
 use std::alloc::Global;
-use written_values::LandmarkWords;
+use value_syntax::LandmarkWords;
 
 /// One command with its words understood.
 #[derive(Debug, PartialEq, Eq, Drop)]
@@ -90,7 +90,7 @@ pub enum Task<'a> {
 const LAST_SESSION: u64 = SESSIONS as u64 - 1;
 
 /// What the words ask for, or why they are no task.
-pub fn understood<'a>(alloc: Global, words: &'a [&'a str]) -> Result<Task<'a>, WordsRefused>
+pub fn parse_task<'a>(alloc: Global, words: &'a [&'a str]) -> Result<Task<'a>, WordsRefused>
     ensures { Understands (IsAskedFor (texts words.entry.now)) (IsRefusedFor (texts words.entry.now)) result }
 {
     let matches = match grammar(alloc)?.try_get_matches_from(words) {

@@ -11,11 +11,11 @@ use Rattle.std.proofs.lemmas.Str.{IsAscii-append, IsUtf8-from_ascii}
 use Rattle.std.proofs.lemmas.Str.Ascii.{IsAscii-cons, IsAscii-nil}
 use Rattle.graph_edits.specs.declared.edits.Op.{Op}
 use Rattle.graph_edits.specs.declared.edits.Op.TheVariants.{Add, Set, Cut}
-use Rattle.written_values.specs.OpText.{Fits, edge_text, op_text, pair_text}
-use Rattle.written_values.specs.Scripts.{IsWritten, MayStand, line_words, lines_of, without_empty_last, words_of}
+use Rattle.value_syntax.specs.OpText.{Fits, edge_text, op_text, pair_text}
+use Rattle.value_syntax.specs.Scripts.{IsWritten, MayStand, line_words, lines_of, without_empty_last, words_of}
 use Rattle.commands.specs.Serves.{IsNoScript}
-use Rattle.written_values.specs.declared.line.ScriptLine.{ScriptLine}
-use Rattle.written_values.specs.declared.line.ScriptLine.TheVariants.{Edit, Route}
+use Rattle.value_syntax.specs.declared.line.ScriptLine.{ScriptLine}
+use Rattle.value_syntax.specs.declared.line.ScriptLine.TheVariants.{Edit, Route}
 
 -- ---- what is written
 

@@ -5,7 +5,7 @@ use Rattle.clap.specs.Walk.{Text}
 use Rattle.command_line.specs.Asked.{IsAskedFor, IsUsual}
 use Rattle.command_line.specs.declared.task.Task.{Task}
 use Rattle.command_line.specs.declared.task.Task.TheVariants.{Edit, Resume, Serve}
-use Rattle.service_threads.specs.Config.{IsNumber}
+use Rattle.committer_thread.specs.Config.{IsNumber}
 use Rattle.file_commands.specs.declared.devices.Access.TheVariants.{ToChange}
 use Rattle.file_commands.specs.Events.{Event, HasDone, Opened, Opening}
 use Rattle.file_commands.proofs.OnDevices.{closed, left_open}

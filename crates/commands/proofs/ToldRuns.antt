@@ -14,11 +14,11 @@ use Rattle.command_output.specs.Printing.{Ends, Known}
 use Rattle.command_output.specs.declared.ended.Ended.{Ended}
 use Rattle.command_output.specs.declared.fault.Fault.{Fault}
 use Rattle.command_output.specs.declared.fault.Fault.TheVariants as told
-use Rattle.written_values.specs.declared.words.LandmarkWords.{LandmarkWords}
+use Rattle.value_syntax.specs.declared.words.LandmarkWords.{LandmarkWords}
 use Rattle.live_service.specs.ServeEnds.{IsServeEnd}
 use Rattle.line_exchange.specs.declared.served.Served.{Served}
 use Rattle.line_exchange.specs.declared.served.Served.TheVariants as served
-use Rattle.service_threads.specs.Kept.{IsLeftBy}
+use Rattle.committer_thread.specs.Kept.{IsLeftBy}
 use Rattle.line_exchange.specs.Ends.{HasToldSo, fault_of}
 use Rattle.line_exchange.specs.Begun.{PrintsUnless}
 use Rattle.line_exchange.specs.Inputs.{Bytes, Input}

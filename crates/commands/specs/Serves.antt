@@ -3,16 +3,16 @@ use Rattle.std.specs.Prelude.{◌≡◌, ◌⊎◌, ℕ, List, [], ◌∷◌, Op
 use Rattle.std.specs.Io.KnownBytes.{Appends}
 use Rattle.clap.specs.Walk.{Text}
 use Rattle.disk_trait.specs.declared.disk.Disk.{Ghosts}
-use Rattle.written_values.specs.Scripts.{IsWritten, MayStand}
-use Rattle.written_values.specs.declared.line.ScriptLine.{ScriptLine}
-use Rattle.written_values.specs.declared.words.LandmarkWords.{LandmarkWords}
+use Rattle.value_syntax.specs.Scripts.{IsWritten, MayStand}
+use Rattle.value_syntax.specs.declared.line.ScriptLine.{ScriptLine}
+use Rattle.value_syntax.specs.declared.words.LandmarkWords.{LandmarkWords}
 use Rattle.command_output.specs.Printing.{Ends, Known}
 use Rattle.command_output.specs.declared.ended.Ended.{Ended}
 use Rattle.command_output.specs.declared.ended.Ended.TheVariants.{Done}
 use Rattle.command_output.specs.declared.fault.Fault.{Fault}
 use Rattle.command_output.specs.declared.fault.Fault.TheVariants as told
-use Rattle.service_threads.specs.Config.{IsNumber}
-use Rattle.service_threads.specs.Kept.{IsLeftBy}
+use Rattle.committer_thread.specs.Config.{IsNumber}
+use Rattle.committer_thread.specs.Kept.{IsLeftBy}
 use Rattle.live_service.specs.ServeEnds.{IsServeEnd}
 use Rattle.live_service.specs.ServedList.{HasAnswered}
 use Rattle.line_exchange.specs.Begun.{Begins, PrintsUnless}

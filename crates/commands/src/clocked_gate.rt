@@ -1,5 +1,5 @@
 // What a live service has of the system's clock.
-use service_threads::Gate;
+use committer_thread::Gate;
 use std::rt::Clock;
 
 /// A gate at which nothing is held up, with the system's clock.

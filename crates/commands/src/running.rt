@@ -13,13 +13,13 @@ use crate::outcome::{Outcome, told};
 use crate::service::{LiveService, Service, run_live, run_serve};
 use crate::sites::{At, Sites};
 use crate::streams::Streams;
-use command_line::{Task, WordsRefused, understood};
+use command_line::{Task, WordsRefused, parse_task};
 use command_output::{Fault, FaultWriter, WatchedWriter};
+use committer_thread::ServiceConfig;
 use device_files::DeviceFile;
 use disk_trait::Disk;
 use file_commands::{FileDevices, run_task};
 use new_devices::{NewDevices, SystemDevices};
-use service_threads::ServiceConfig;
 use std::fs::File;
 use std::io::{Read, Write};
 use std::rt::{Clock, Files};
@@ -151,14 +151,14 @@ where
 
     ensures unmade { MakesOnlyLive (texts words.now) P.Backups.events at.entry.backups.now at.exit.1.0.now }
 {
-    match understood(rt.alloc(), words) {
-        Ok(task) => run_understood(rt, at, task, streams),
+    match parse_task(rt.alloc(), words) {
+        Ok(task) => run_parsed(rt, at, task, streams),
         Err(refused) => told(streams.err, Err(fault_of(refused))),
     }
 }
 
 // Does what a task asks for, and answers how it ended.
-fn run_understood<R, P, S, O, E>(
+fn run_parsed<R, P, S, O, E>(
     rt: &R,
     at: At<'_, '_, '_, P>,
     task: Task<'_>,

@@ -1,8 +1,8 @@
 //! The command `serve`, over a script or over lines as they come.
 ghost use Rattle.std.specs.Prelude.{◌≡◌, ◌++◌, IfOk, IfErr, IsTrue};
 ghost use Rattle.command_output.specs.declared.fault.Fault.{Fault};
-ghost use Rattle.written_values.specs.Scripts.{AreOfSessions};
-ghost use Rattle.service_threads.specs.Config.{IsServiceConfig};
+ghost use Rattle.value_syntax.specs.Scripts.{AreOfSessions};
+ghost use Rattle.committer_thread.specs.Config.{IsServiceConfig};
 ghost use Rattle.file_commands.specs.Events.{HasDone};
 ghost use Rattle.commands.specs.Serves.{EndsScript, IsReadFault, IsScriptFault, IsScriptOf, closing};
 ghost use Rattle.commands.specs.Runs.{IsEndOf, RunsLive, streams_of};
@@ -12,11 +12,11 @@ use crate::outcome::{Outcome, told};
 use crate::sites::{At, Sites};
 use crate::streams::Streams;
 use command_output::{Ended, Fault, FaultWriter};
+use committer_thread::{OpenGate, ServiceConfig};
 use file_commands::{Access, Devices};
 use live_service::{Env, LiveInput, Places, Served, ServedDevice, Surroundings, serve_live};
 use new_devices::{LentDevices, NewDevices};
 use script_service::serve_lines;
-use service_threads::{OpenGate, ServiceConfig};
 use std::alloc::Global;
 use std::io;
 use std::io::{BufReader, ErrorKind, Read, Write};
@@ -24,7 +24,7 @@ use std::rt::Clock;
 use std::sync::Wait;
 use std::thread::Threads;
 use table_files::LentTables;
-use written_values::{LandmarkWords, ScriptLine, script};
+use value_syntax::{LandmarkWords, ScriptLine, script};
 
 // The script that a reader gives, read to its end. One that isn't understood is none for so many editors.
 fn read_script<S: Read>(alloc: Global, from: &mut S, editors: u8) -> Result<Vec<ScriptLine>, Fault>

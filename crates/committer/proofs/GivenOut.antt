@@ -11,7 +11,7 @@ use Rattle.group_commit.specs.declared.desk.Desk.{Desk}
 use Rattle.committer.specs.declared.committer.Committer.{Committer}
 use Rattle.committer.specs.Outboxes.{Outgoing, with_posted, with_due}
 use Rattle.committer.specs.CommitterWords.{desk_of, store_of, got_of, posts_of}
-use Rattle.settled_lists.specs.declared.builds.Builds.{Builds}
+use Rattle.request_lists.specs.declared.builds.Builds.{Builds}
 use Rattle.committer.specs.Listed.{IsListed, IsListedFrom}
 use Rattle.committer.proofs.Listings.{committed_listed}
 use Rattle.committer.proofs.Settles.{marks_said}

@@ -16,10 +16,10 @@ use Rattle.generations.specs.Beginnings.{Opening}
 use Rattle.generations.proofs.Keeping.{drop_front, drop_whole}
 use Rattle.intake.specs.Turns.{AreWithin}
 use Rattle.group_commit.specs.Settling.{settle}
-use Rattle.settled_lists.specs.declared.builds.Builds.{Builds}
-use Rattle.settled_lists.specs.declared.builds.Builds.TheVariants.{Beside}
-use Rattle.settled_lists.specs.Lists.{AreListed, IsAhead}
-use Rattle.settled_lists.proofs.Steps.{listed_first, listed_filled, listed_marks, listed_down, listed_built, listed_earlier}
+use Rattle.request_lists.specs.declared.builds.Builds.{Builds}
+use Rattle.request_lists.specs.declared.builds.Builds.TheVariants.{Beside}
+use Rattle.request_lists.specs.Lists.{AreListed, IsAhead}
+use Rattle.request_lists.proofs.Steps.{listed_first, listed_filled, listed_marks, listed_down, listed_built, listed_earlier}
 use Rattle.committer.specs.Outboxes.{Outgoing, all_of, paid, with_posted, with_due}
 use Rattle.committer.specs.Rebuilds.{IsNumbered}
 use Rattle.committer.specs.declared.committer.Committer.{Committer}

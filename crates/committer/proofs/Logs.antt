@@ -13,7 +13,7 @@ use Rattle.generations.specs.declared.posting.Notice.TheVariants.{Marked, Failed
 use Rattle.generations.specs.Beginnings.{Opening}
 use Rattle.generations.specs.Lawful.{IsLawful}
 use Rattle.generations.specs.Posts.{Posts}
-use Rattle.settled_lists.specs.Lists.{IsAhead}
+use Rattle.request_lists.specs.Lists.{IsAhead}
 use Rattle.committer.specs.Outboxes.{Outgoing, outgoing, back_of, all_of, paid, with_posted, with_due}
 use Rattle.committer.specs.Ties.{IsTied}
 use Rattle.committer.proofs.Settled.{IsSettled}

@@ -19,8 +19,8 @@ use Rattle.generations.specs.Beginnings.{Opening}
 use Rattle.generations.specs.Boards.{accepting}
 use Rattle.generations.proofs.Lawfulness.{lawful_none, lawful_marks, lawful_down, lawful_generation, marks_push, counted_append, still_up}
 use Rattle.generations.proofs.Numbers.{same_newest, now_newest, all_below}
-use Rattle.settled_lists.specs.Lists.{IsAhead}
-use Rattle.settled_lists.proofs.Steps.{not_newest}
+use Rattle.request_lists.specs.Lists.{IsAhead}
+use Rattle.request_lists.proofs.Steps.{not_newest}
 use Rattle.committer.specs.Ties.{IsTied}
 use Rattle.committer.specs.Turns.{HoldsNoLater}
 use Rattle.committer.proofs.InTurns.{held_no_later}

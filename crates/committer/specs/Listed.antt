@@ -7,9 +7,9 @@ use Rattle.schemes.specs.declared.parts.Parts.{Parts}
 use Rattle.schemes.specs.Tables.{tables}
 use Rattle.schemes.specs.Service.{Serves}
 use Rattle.group_commit.specs.Settling.{settle}
-use Rattle.settled_lists.specs.declared.builds.Builds.{Builds}
-use Rattle.settled_lists.specs.declared.builds.Builds.TheVariants.{Beside}
-use Rattle.settled_lists.specs.Lists.{AreListed}
+use Rattle.request_lists.specs.declared.builds.Builds.{Builds}
+use Rattle.request_lists.specs.declared.builds.Builds.TheVariants.{Beside}
+use Rattle.request_lists.specs.Lists.{AreListed}
 use Rattle.committer.specs.declared.committer.Committer.{Committer}
 use Rattle.committer.specs.Outboxes.{Outgoing, all_of}
 use Rattle.committer.specs.CommitterWords.{store_of, held_of, got_of, posts_of}

@@ -3,12 +3,13 @@ ghost use Rattle.std.specs.Prelude.{◌≡◌, [], None, false};
 ghost use Rattle.checkpoint.specs.StoreWords.{is_down};
 ghost use Rattle.group_commit.specs.DeskWords.{store_of, held_of, due_of};
 ghost use Rattle.committer.specs.CommitterWords.{posts_of};
-ghost use Rattle.service_threads.specs.Kept.{IsFresh};
-ghost use Rattle.service_threads.specs.Pace.{IsBegun, IsShown};
-ghost use Rattle.settled_lists.specs.declared.builds.Builds.TheVariants.{Beside};
+ghost use Rattle.committer_thread.specs.Kept.{IsFresh};
+ghost use Rattle.committer_thread.specs.Pace.{IsBegun, IsShown};
+ghost use Rattle.request_lists.specs.declared.builds.Builds.TheVariants.{Beside};
 
 use crate::seats::{got, same};
 use committer::Committer;
+use committer_thread::{RebuildSchedule, Setting, Site, begun, commit_beside};
 use disk_trait::Disk;
 use generations::{Board, BoardReader, board};
 use graph_edits::{Change, Op};
@@ -16,10 +17,8 @@ use group_commit::Desk;
 use intake::{Editor, SubmitRefused, open_intake};
 use new_devices::NoDevices;
 use packet_ways::BoardName;
-use service_threads::{Rebuilds, Setting, Site, begun, commit_beside};
-use service_workers::{Coordinator, Gate, StopCause, WordSource};
-use settled_lists::Builds;
-use stand_ins::{BeforeSync, HookedDisk, comes};
+use request_lists::Builds;
+use service_actors::{Coordinator, Gate, StopCause, WordSource};
 use std::alloc::{AllocError, Global};
 use std::marker::{Brand, PhantomData};
 use std::process::Abort;
@@ -27,6 +26,7 @@ use std::sync::atomic::{AtomicBool, AtomicU64, Ordering};
 use std::sync::{Arc, Mutex, Wait};
 use std::thread;
 use std::thread::Threads;
+use test_doubles::{BeforeSync, HookedDisk, comes};
 
 // The path of these nodes has one edge less.
 const NODES: u16 = 6;
@@ -139,7 +139,7 @@ impl<R: Threads + Wait + Sync> Setting for Paced<R> {
 fn commits<'a, J: BoardName + Send + Sync, R: Threads + Wait + Abort + Copy + Drop + Sync>(
     site: &'a Site<'a, J, Paced<R>>,
     committer: Fed<R>,
-    rebuilds: Rebuilds,
+    rebuilds: RebuildSchedule,
     editors: [Editor; 2],
 ) -> Fed<R>
     requires opening { (posts_of committer).opening ≡ J.opening }
@@ -185,7 +185,7 @@ fn commits_by<J: BoardName + Send + Sync, R: Threads + Wait + Abort + Copy + Dro
 {
     let mut committer = committer;
     let words = WordSource::Same(got(rt, Vec::from_slice(alloc, &[u64::MAX; 6])));
-    let rebuilds = Rebuilds::new(alloc, words, rounds, Builds::Beside);
+    let rebuilds = RebuildSchedule::new(alloc, words, rounds, Builds::Beside);
     let mut rebuilds = rebuilds.ok().expect(rt, "memory");
     match begun::<J, _, R, R>(rt, alloc, &mut committer, &mut rebuilds, 1) {
         Ok(coordinator) => {
@@ -228,7 +228,7 @@ fn desk_of<D: Disk + Drop>(rt: &impl Abort, alloc: Global, disk: D) -> Desk<D>
     ensures due { due_of result ≡ None }
     ensures up { is_down (store_of result) ≡ false }
 {
-    Desk::new(stand_ins::opened(alloc, disk).ok().expect(rt, "opened"))
+    Desk::new(test_doubles::opened(alloc, disk).ok().expect(rt, "opened"))
 }
 
 // The generations of a burst of five edits where a build waits for so many rounds at most.
@@ -254,7 +254,7 @@ fn generations<R: Threads + Wait + Abort + Copy + Drop + Sync>(
         signs: got(&rt, Arc::try_clone(&signs)),
     };
     let feed = got(&rt, Arc::new(alloc, feed));
-    let disk = got(&rt, stand_ins::formatted(alloc, NODES));
+    let disk = got(&rt, test_doubles::formatted(alloc, NODES));
     let disk = HookedDisk::new(disk, got(&rt, Arc::try_clone(&feed)));
     let desk = desk_of(&rt, alloc, disk);
     let (starts, count) = (desk.starts(), desk.store().count());

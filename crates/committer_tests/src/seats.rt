@@ -54,7 +54,7 @@ pub(crate) fn opened(rt: &impl Abort, alloc: Global, disk: MemDisk) -> Desk<MemD
     ensures due { due_of result ≡ None }
     ensures up { is_down (store_of result) ≡ false }
 {
-    Desk::new(stand_ins::opened(alloc, disk).ok().expect(rt, "opened"))
+    Desk::new(test_doubles::opened(alloc, disk).ok().expect(rt, "opened"))
 }
 
 /// A desk over a fresh device for five nodes.
@@ -63,7 +63,7 @@ pub(crate) fn fresh(rt: &impl Abort, alloc: Global) -> Desk<MemDisk>
     ensures due { due_of result ≡ None }
     ensures up { is_down (store_of result) ≡ false }
 {
-    opened(rt, alloc, got(rt, stand_ins::formatted(alloc, 5)))
+    opened(rt, alloc, got(rt, test_doubles::formatted(alloc, 5)))
 }
 
 /// A committer, two editors, two forwarders and a reader, all of one board.

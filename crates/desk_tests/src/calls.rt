@@ -5,9 +5,9 @@ use crate::rolls::{LACKS, full, full_but, give_sized};
 use disk_trait::{CrashDisk, MemDisk, Plan};
 use graph_edits::Op;
 use group_commit::Desk;
-use stand_ins::CRASH_WORDS;
 use std::alloc::Global;
 use std::process::Abort;
+use test_doubles::CRASH_WORDS;
 
 // What is there before the group and behind it: how many changes, the last tickets, and the weight of the edge 0-1.
 type Found = (u64, [u64; 3], Option<u32>);

@@ -8,7 +8,7 @@ use disk_trait::{CrashDisk, Plan};
 use generations::Mark;
 use graph_edits::{Code, Op};
 use group_commit::{DeskRefused, MOST_HELD};
-use stand_ins::has_spelled;
+use test_doubles::has_spelled;
 
 #[test]
 fn refusals_have_their_numbers(rt: HostRuntime) {

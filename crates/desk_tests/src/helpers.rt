@@ -38,12 +38,12 @@ pub(crate) fn got<T, E: Drop>(rt: &impl Abort, answer: Result<T, E>) -> T {
 
 // A disk formatted for five nodes.
 pub(crate) fn formatted(rt: &impl Abort, alloc: Global) -> MemDisk {
-    got(rt, stand_ins::formatted(alloc, 5))
+    got(rt, test_doubles::formatted(alloc, 5))
 }
 
 // A desk over a disk.
 pub(crate) fn opened(rt: &impl Abort, alloc: Global, disk: MemDisk) -> Desk<MemDisk> {
-    Desk::new(stand_ins::opened(alloc, disk).ok().expect(rt, "a store"))
+    Desk::new(test_doubles::opened(alloc, disk).ok().expect(rt, "a store"))
 }
 
 // A desk over a fresh device for five nodes.
@@ -132,7 +132,7 @@ pub(crate) fn settle(
 // The byte at a place.
 pub(crate) fn byte_at(rt: &impl Abort, disk: &mut MemDisk, at: usize) -> u8 {
     let mut byte = [0];
-    got(rt, stand_ins::read_at(disk, at, &mut byte));
+    got(rt, test_doubles::read_at(disk, at, &mut byte));
     byte[0]
 }
 
@@ -163,8 +163,8 @@ pub(crate) fn whole(rt: &impl Abort, alloc: Global, disk: &mut MemDisk) -> Vec<u
 
 // A disk of these bytes, all settled.
 pub(crate) fn copied(rt: &impl Abort, alloc: Global, bytes: &[u8]) -> MemDisk {
-    let mut disk = got(rt, stand_ins::blank(alloc, DEVICE_LEN));
-    got(rt, stand_ins::put(&mut disk, 0, bytes));
+    let mut disk = got(rt, test_doubles::blank(alloc, DEVICE_LEN));
+    got(rt, test_doubles::put(&mut disk, 0, bytes));
     got(rt, disk.sync());
     disk
 }

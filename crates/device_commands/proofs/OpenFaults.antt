@@ -1,7 +1,7 @@
 -- What faults tell of a content.
 use Rattle.std.proofs.Common.{◌≡◌, ℕ, List, Option, Result, Ok, Err, IfErr, IsErrOf, refl, ap, inl, subst, sym}
-use Rattle.layout_parts.specs.declared.refusals.OpenRefused.{OpenRefused}
-use Rattle.layout_parts.specs.declared.refusals.OpenRefused.TheVariants.{NotFormatted, BadVersion, Damaged, Device, Memory}
+use Rattle.layout_reader.specs.declared.refusals.OpenRefused.{OpenRefused}
+use Rattle.layout_reader.specs.declared.refusals.OpenRefused.TheVariants.{NotFormatted, BadVersion, Damaged, Device, Memory}
 use Rattle.disk_trait.specs.Disk.{DiskView, reading_leaves}
 use Rattle.graph_edits.specs.declared.edits.Op.{Op}
 use Rattle.layout_2.specs.State.{State}

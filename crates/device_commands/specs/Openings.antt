@@ -3,9 +3,9 @@ use Rattle.std.specs.Prelude.{◌≡◌, ◌≤◌, ◌<◌, ℕ, List, Result, 
 use Rattle.graph_edits.specs.Edges.{most_nodes}
 use Rattle.disk_trait.specs.Disk.{DiskView, IsSameDevice, OnlyRead}
 use Rattle.requests.specs.Tickets.{last_of}
-use Rattle.layout_parts.specs.declared.refusals.OpenRefused.{OpenRefused}
-use Rattle.layout_parts.specs.declared.refusals.OpenRefused.TheVariants.{NotFormatted as OpenNotFormatted, BadVersion, Damaged as OpenDamaged, Device as OpenDevice, Memory as OpenMemory}
-use Rattle.layout_parts.specs.Refusals.{LacksMagic}
+use Rattle.layout_reader.specs.declared.refusals.OpenRefused.{OpenRefused}
+use Rattle.layout_reader.specs.declared.refusals.OpenRefused.TheVariants.{NotFormatted as OpenNotFormatted, BadVersion, Damaged as OpenDamaged, Device as OpenDevice, Memory as OpenMemory}
+use Rattle.layout_reader.specs.Refusals.{LacksMagic}
 use Rattle.layout_2.specs.Fronts.{HasOtherVersion, HasThisVersion}
 use Rattle.layout_2.specs.State.{State}
 use Rattle.layout_2.specs.Standing.{StandsFor, StandsForNone}

@@ -30,6 +30,7 @@ pub fn edit<D: Disk, R: Threads + Wait + Sync>(
     requires { session < sessions }
     ensures { EditsDevice session named change (D.view disk) (D.view result.1) result.0 }
 {
+    // The disk's bytes stand for one state at most: the one that is edited.
     standing_law();
     match open(alloc, disk) {
         Ok(store) => {

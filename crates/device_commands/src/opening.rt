@@ -64,6 +64,7 @@ fn fault_of(refused: OpenRefused) -> Fault
 pub fn listing<D: Disk>(alloc: Global, disk: D) -> (Result<String, Fault>, D)
     ensures { AnswersOf (λ state text. IsListing state (string_bytes text)) (D.view disk) (D.view result.1) result.0 }
 {
+    // The disk's bytes stand for one state at most: the one that is opened.
     standing_law();
     match open(alloc, disk) {
         Ok(store) => (listing_of_store(alloc, &store), store.into_disk()),
@@ -83,6 +84,7 @@ pub fn resume<D: Disk>(alloc: Global, disk: D, session: u8) -> (Result<u64, Faul
     requires { session < sessions }
     ensures { AnswersOf (IsLastTicket session) (D.view disk) (D.view result.1) result.0 }
 {
+    // The disk's bytes stand for one state at most: the one that is opened.
     standing_law();
     match open(alloc, disk) {
         Ok(store) => (Ok(store.resume(session)), store.into_disk()),

@@ -167,6 +167,7 @@ fn each_byte_of_two_records_changed_to_each_other(rt: HostRuntime) {
     }
     let many = damaged > 1_000 && read > 1_000;
     same(rt, (damaged, read, many), (damaged, read, true), "both");
+    // A payload spells one group, and a group has one payload.
     spelling_laws::<Change>();
     spelling_laws::<Request>();
     record_law();

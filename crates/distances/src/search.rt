@@ -88,6 +88,7 @@ pub fn settle_all(
     ensures tracked { IsTracked graph.now.nodes (number_at search.new.tentative.items)
         (flag_at search.new.settled.items) search.new.order.items (heap_items search.new.waiting) }
 {
+    // It tells that the graph is sound.
     let _sound = graph.nodes();
     let mut pops: u64 = 0;
     search.order.reserve(1)?;

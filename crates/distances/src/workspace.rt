@@ -137,6 +137,7 @@ fn find_tree(
     ensures tracked { IsTracked graph.now.nodes (number_at search.new.tentative.items)
         (flag_at search.new.settled.items) search.new.order.items (heap_items search.new.waiting) }
 {
+    // It tells that the graph is sound.
     let _sound = graph.nodes();
     let start = Settled {
         distance: 0,

@@ -3,7 +3,7 @@ use Rattle.std.proofs.Common.{arith, ◌≡◌, ◌≢◌, ◌≤◌, ◌<◌, �
 use Rattle.std.specs.Prelude.{◌==◌, ◌&&◌, ◌||◌, is_some, unwrap_or}
 use Rattle.std.proofs.lemmas.Bool.Decides.{Decides-eqb}
 use Rattle.std.proofs.lemmas.List.{at_drop_all, at_drop_more}
-use Rattle.written_values.specs.Scripts.{lines_of}
+use Rattle.value_syntax.specs.Scripts.{lines_of}
 use Rattle.edge_lists.specs.declared.forms.Heading.TheVariants.{ByWords, There, Absent}
 use Rattle.edge_lists.specs.declared.forms.Writing.{Writing}
 use Rattle.edge_lists.specs.declared.forms.Writing.TheVariants.{Edges, Dimacs, Relations}

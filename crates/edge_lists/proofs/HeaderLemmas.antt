@@ -6,7 +6,7 @@ use Rattle.edge_lists.specs.declared.forms.Writing.{Writing}
 use Rattle.edge_lists.specs.declared.header.Front.TheVariants.{Nothing, Header, Other}
 use Rattle.edge_lists.specs.Rows.{IsFront, is_head, lead, says_nothing, words_of}
 use Rattle.edge_lists.proofs.WordLemmas.{texts_at}
-pub use Rattle.written_values.proofs.Written.{nowhere}
+pub use Rattle.value_syntax.proofs.Written.{nowhere}
 
 -- the lines in front among those that are left
 abbrev pub lead_left : Writing → List (Bor (List ℕ)) → ℕ

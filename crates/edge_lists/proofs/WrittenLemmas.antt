@@ -14,8 +14,8 @@ use Rattle.std.proofs.lemmas.List.Folds.{flat_map-map, list_any_none}
 use Rattle.std.proofs.lemmas.List.Splits.{slice_split_at, slice_split_none}
 use Rattle.std.proofs.lemmas.Option.{get_or_from_slice_get, slice_get-get_or, slice_get_within}
 use Rattle.std.proofs.lemmas.Str.Parse.{digit_at}
-use Rattle.written_values.specs.Scripts.{lines_of, without_empty_last}
-use Rattle.written_values.proofs.Written.{empty_goes}
+use Rattle.value_syntax.specs.Scripts.{lines_of, without_empty_last}
+use Rattle.value_syntax.proofs.Written.{empty_goes}
 use Rattle.edge_lists.specs.declared.edge.Edge.{Edge}
 use Rattle.edge_lists.specs.declared.refused.NameForm.{NameForm}
 use Rattle.edge_lists.specs.declared.refused.NameForm.TheVariants.{NoName, Twice, TooMany}

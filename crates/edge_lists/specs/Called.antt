@@ -1,6 +1,6 @@
 -- How the text beside a device calls its nodes.
 use Rattle.std.specs.Prelude.{◌≡◌, ◌⊎◌, ℕ, List, codes}
-use Rattle.written_values.specs.Scripts.{lines_of}
+use Rattle.value_syntax.specs.Scripts.{lines_of}
 use Rattle.edge_lists.specs.declared.called.Called.{Called}
 use Rattle.edge_lists.specs.declared.called.Called.TheVariants.{Numbers, Names}
 use Rattle.edge_lists.specs.NameLists.{AreNames}

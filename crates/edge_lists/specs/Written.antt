@@ -2,8 +2,8 @@
 use Rattle.std.specs.Prelude.{◌≡◌, ◌==◌, ◌<◌, ◌+◌, ◌*◌, ◌^◌, ℕ, List, [], ◌∷◌, ◌++◌, None, Some, false, All, codes, decimal, drop, length, map, unwrap_or}
 use Rattle.std.specs.List.{flat_map, slice_get}
 use denote.Ref.{Bor}
-use Rattle.written_values.specs.Reading.{texts_of}
-use Rattle.written_values.specs.Scripts.{lines_of}
+use Rattle.value_syntax.specs.Reading.{texts_of}
+use Rattle.value_syntax.specs.Scripts.{lines_of}
 use Rattle.edge_lists.specs.declared.edge.Edge.{Edge}
 use Rattle.edge_lists.specs.declared.refused.NameRefused.{NameRefused}
 use Rattle.edge_lists.specs.NameLists.{AreNames, IsFirstNoName}

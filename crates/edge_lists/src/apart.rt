@@ -1,14 +1,14 @@
 // How the forms of lists of edges are told apart.
 ghost use Rattle.std.specs.Prelude.{◌≡◌, ◌∷◌, [], IfOk};
 ghost use Rattle.edge_lists.specs.Apart.{IsAlone, begins_object, form_at, form_by, form_in};
-ghost use Rattle.written_values.specs.Reading.{texts_of};
+ghost use Rattle.value_syntax.specs.Reading.{texts_of};
 
 use crate::forms::{Heading, Writing, is_letter, is_problem, related, relation_parts};
 use crate::name::begins_comment;
 use crate::records::has_comma;
 use crate::words::words_in;
 use std::alloc::{AllocError, Global};
-use written_values::lines_in;
+use value_syntax::lines_in;
 
 // The form that a line of one word shows.
 fn form_of_word(alloc: Global, words: &[&str], word: &str) -> Result<Option<Writing>, AllocError>

@@ -1,6 +1,6 @@
 // How nodes are called.
 ghost use Rattle.std.specs.Prelude.{◌≡◌, ◌↔◌, IsTrue};
-ghost use Rattle.written_values.specs.Scripts.{lines_of};
+ghost use Rattle.value_syntax.specs.Scripts.{lines_of};
 ghost use Rattle.edge_lists.specs.Called.{IsCalled, SaysNumbers};
 ghost use Rattle.edge_lists.specs.NameLists.{IsFirstNoName};
 ghost use Rattle.edge_lists.specs.Reading.{IfAccepted, IfRefused};

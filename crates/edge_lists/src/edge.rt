@@ -1,7 +1,7 @@
 // Edges between nodes that have numbers.
 ghost use Rattle.std.specs.Prelude.{◌≡◌, ℕ, map};
 ghost use Rattle.std.specs.List.{list_all};
-ghost use Rattle.written_values.specs.Reading.{IfRead};
+ghost use Rattle.value_syntax.specs.Reading.{IfRead};
 ghost use Rattle.edge_lists.specs.Edges.{AreNumbered, IsFirstOther, IsNotNumbered, IsNumber, IsNumbered, calls_numbers};
 ghost use Rattle.edge_lists.specs.Reading.{IfAccepted, IfNoneRead, IfRefused};
 ghost use Rattle.edge_lists.specs.Rows.{row_of};
@@ -9,7 +9,7 @@ ghost use Rattle.edge_lists.specs.Rows.{row_of};
 use crate::name::are_digits;
 use crate::row::Row;
 use std::alloc::{AllocError, Global};
-use written_values::number;
+use value_syntax::number;
 
 /// An edge, and the line that says it.
 #[derive(Clone, Copy, Debug, PartialEq, Eq, Drop)]

@@ -1,7 +1,7 @@
 // The forms of lists of edges: what a line of each is.
 ghost use Rattle.std.specs.Prelude.{◌≡◌, IfOk, codes};
 ghost use Rattle.std.specs.Option.{option_map};
-ghost use Rattle.written_values.specs.Reading.{texts_of};
+ghost use Rattle.value_syntax.specs.Reading.{texts_of};
 ghost use Rattle.edge_lists.specs.Rows.{arc_fields, begins_silence, is_letter, is_problem, is_relation, nodes_word, reads_as, related, relation_parts, says_nothing, scale_of, word_fields};
 
 use crate::name::{are_digits, begins_comment};

@@ -1,6 +1,6 @@
 // Lines in front of edges.
 ghost use Rattle.std.specs.Prelude.{◌≡◌, ◌≤◌, IfOk, codes, length};
-ghost use Rattle.written_values.specs.Reading.{texts_of};
+ghost use Rattle.value_syntax.specs.Reading.{texts_of};
 ghost use Rattle.edge_lists.specs.Rows.{IsFront, begins_as_name, heads_ends, is_head, is_heading, is_numeric, lead, names_ends, names_third, words_of};
 
 use crate::forms::{Heading, Writing, is_nothing, is_problem, reads_as};

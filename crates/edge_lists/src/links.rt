@@ -5,7 +5,7 @@ ghost use Rattle.std.specs.String.{string_bytes};
 ghost use Rattle.serde_json.specs.Find.{get};
 ghost use Rattle.serde_json.specs.Read.{read};
 ghost use Rattle.serde_json.specs.View.{view};
-ghost use Rattle.written_values.specs.Reading.{IfRead};
+ghost use Rattle.value_syntax.specs.Reading.{IfRead};
 ghost use Rattle.edge_lists.specs.Links.{AreIds, IsFirstNoLink, IsFirstNoNode, IsLink, IsNoLink, IsNoNetwork, IsNoNodeLink, LinksSay, SaysLinks, has_number, items_at, links_of, name_at, weight_in, word_of};
 ghost use Rattle.edge_lists.specs.Reading.{IfAccepted, IfNoneRead, IfRefused};
 ghost use Rattle.edge_lists.specs.Rows.{row_of};

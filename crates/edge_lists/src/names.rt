@@ -1,8 +1,8 @@
 // Names of nodes.
 ghost use Rattle.std.specs.Prelude.{◌≡◌, ◌↔◌, ◌<◌, ◌+◌, ◌^◌, ◌∷◌, ◌++◌, [], All, IfOk, IfSome, IsTrue, OnErr, OnOk, false, ℕ, is_some, length, map};
 ghost use Rattle.std.specs.String.{string_bytes};
-ghost use Rattle.written_values.specs.Reading.{IfRead, texts_of};
-ghost use Rattle.written_values.specs.Scripts.{lines_of};
+ghost use Rattle.value_syntax.specs.Reading.{IfRead, texts_of};
+ghost use Rattle.value_syntax.specs.Scripts.{lines_of};
 ghost use Rattle.edge_lists.specs.Edges.{IsEdgeOf};
 ghost use Rattle.edge_lists.specs.NameLists.{AreBegun, AreNames, AreTaken, EndsAt, HaveNumbers, IsFirstNoName, IsNumberOf, IsOneTooMany, NoneTwice, has_number, is_among, row_ends, with_name, with_names};
 ghost use Rattle.edge_lists.specs.Reading.{IfAccepted, IfNoneRead, IfRefused, OnRead};
@@ -16,7 +16,7 @@ use crate::row::Row;
 use indexmap::IndexSet;
 use std::alloc::{AllocError, Global};
 use std::marker::Model;
-use written_values::lines_in;
+use value_syntax::lines_in;
 
 /// Names, each of which stands for a number: they are numbered from 0 in the order in which they came. Contracts see
 /// the list of them.
@@ -27,7 +27,7 @@ pub struct Names<'a> {
 
 impl<'a> Model for Names<'a> {
     ghost use Rattle.std.specs.Prelude.{◌<◌, ◌^◌, List, ℕ, length};
-    ghost use Rattle.written_values.specs.Reading.{texts_of};
+    ghost use Rattle.value_syntax.specs.Reading.{texts_of};
 
     ghost Value = { List (List ℕ) };
 

@@ -1,15 +1,15 @@
 // What a text says of its nodes, in front of its edges.
 ghost use Rattle.std.specs.Prelude.{◌≡◌, IfOk};
 ghost use Rattle.std.specs.Option.{option_map};
-ghost use Rattle.written_values.specs.Reading.{IfRead, texts_of};
-ghost use Rattle.written_values.specs.Scripts.{lines_of};
+ghost use Rattle.value_syntax.specs.Reading.{IfRead, texts_of};
+ghost use Rattle.value_syntax.specs.Scripts.{lines_of};
 ghost use Rattle.edge_lists.specs.Rows.{count_line, count_word, counted, head_count, names_said, nodes_said, remarked, remarks, words_of};
 
 use crate::forms::{Writing, is_letter, nodes_word, reads_as};
 use crate::header::lines_before;
 use crate::words::{parts_in, words_in};
 use std::alloc::{AllocError, Global};
-use written_values::lines_in;
+use value_syntax::lines_in;
 
 /// How many nodes there are, and what they are called.
 #[derive(Debug, Drop)]

@@ -3,7 +3,7 @@ ghost use Rattle.std.specs.Prelude.{◌≡◌, ◌+◌, ◌<◌, IfOk, length, t
 ghost use Rattle.std.specs.HashMap.{values};
 ghost use Rattle.edge_lists.specs.Once.{AreOnce, IsChoice, IsFirstClash, IsKept, pair_of};
 ghost use Rattle.edge_lists.specs.Reading.{IfAccepted, IfNoneRead, IfRefused};
-ghost use Rattle.written_values.specs.Reading.{IfRead};
+ghost use Rattle.value_syntax.specs.Reading.{IfRead};
 
 use crate::edge::Edge;
 use indexmap::IndexMap;

@@ -1,6 +1,6 @@
 // Reading edges.
 ghost use Rattle.std.specs.Prelude.{◌≡◌, ◌+◌, ◌<◌, ◌^◌, ◌∷◌, ℕ, IfOk, None, length, map};
-ghost use Rattle.written_values.specs.Reading.{IfRead, texts_of};
+ghost use Rattle.value_syntax.specs.Reading.{IfRead, texts_of};
 ghost use Rattle.edge_lists.specs.Reading.{IfAccepted, IfNoneRead, IfRefused};
 ghost use Rattle.edge_lists.specs.Rows.{IsEdgeRead, IsFirstRefused, IsReadAs, IsWeight, Say, comma_fields_in, row_of, scale_of};
 ghost use Rattle.edge_lists.specs.Written.{IsRefusedAt, SaysEdges};
@@ -14,7 +14,7 @@ use crate::row::Row;
 use crate::scale::scaled_weight;
 use crate::words::{first_of, words_in};
 use std::alloc::{AllocError, Global};
-use written_values::{lines_in, number};
+use value_syntax::{lines_in, number};
 
 /// The rows of a text in this form, or its first line that says no edge.
 pub fn read_rows(

@@ -6,7 +6,7 @@ ghost use Rattle.csv.specs.Reading.{strip_bom};
 ghost use Rattle.csv.specs.Records.{field_at, fields_of as record_fields, trimmed};
 ghost use Rattle.csv.specs.declared.parser.State.{State};
 ghost use Rattle.csv.specs.declared.parser.State.TheVariants.{StartRecord};
-ghost use Rattle.written_values.specs.Reading.{texts_of};
+ghost use Rattle.value_syntax.specs.Reading.{texts_of};
 ghost use Rattle.edge_lists.specs.Records.{GivesNext, StandsAt, comma_fields, has_comma, hides_quote, next, quote_first, raw_fields};
 
 use csv::{ByteRecord, Reader, ReaderBuilder, StringRecord};

@@ -1,7 +1,7 @@
 // Decimal weights that are multiplied.
 ghost use Rattle.std.specs.Prelude.{◌≡◌, ◌<◌, ◌≤◌, ◌^◌, ℕ, IfOk, Some, length, true};
 ghost use Rattle.std.specs.Str.Parse.{digits_value};
-ghost use Rattle.written_values.specs.Reading.{IfRead, texts_of};
+ghost use Rattle.value_syntax.specs.Reading.{IfRead, texts_of};
 ghost use Rattle.edge_lists.specs.Labels.{are_digits};
 ghost use Rattle.edge_lists.specs.Reading.{IfNoneRead};
 ghost use Rattle.edge_lists.specs.Rows.{IsWeight, nearest, scaled_digits, scaled_parts};

@@ -1,6 +1,6 @@
 // The words of a line.
 ghost use Rattle.std.specs.Prelude.{◌≡◌, ◌∷◌, [], ◌<◌, IfNone, IfOk, IfSome};
-ghost use Rattle.written_values.specs.Reading.{texts_of};
+ghost use Rattle.value_syntax.specs.Reading.{texts_of};
 ghost use Rattle.std.specs.List.{flat_map};
 ghost use Rattle.edge_lists.specs.Rows.{parts_at, unless_empty, words_of};
 

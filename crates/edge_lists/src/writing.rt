@@ -1,7 +1,7 @@
 // An edge list's text.
 ghost use Rattle.std.specs.Prelude.{◌≡◌, ◌++◌, ◌∷◌, [], IfOk, OnOk};
 ghost use Rattle.std.specs.String.{string_bytes};
-ghost use Rattle.written_values.specs.Reading.{IfRead, texts_of};
+ghost use Rattle.value_syntax.specs.Reading.{IfRead, texts_of};
 ghost use Rattle.edge_lists.specs.Labels.{AreLabels};
 ghost use Rattle.edge_lists.specs.Reading.{IfNoneRead};
 ghost use Rattle.edge_lists.specs.Written.{FitTypes, IsList, arc_text, arcs_text, dimacs_text, head_lines, label_of, names_text, remark, text_of_edge};

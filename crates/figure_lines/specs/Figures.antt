@@ -6,7 +6,7 @@ use Rattle.std.specs.String.{string_bytes}
 use Rattle.csv.specs.Writing.{default_writer, row_text}
 use Rattle.csv.specs.declared.writer.WriterBuilder.{WriterBuilder}
 use Rattle.serde_json.specs.Data.{Data, string, array, object, member, no_members}
-use Rattle.spreads.specs.Decimals.{thousandths_text}
+use Rattle.statistics.specs.Decimals.{thousandths_text}
 use Rattle.figure_lines.specs.Json.{items_by}
 use Rattle.figure_lines.specs.declared.figure.Figure.{Figure}
 

@@ -3,10 +3,10 @@ use Rattle.std.specs.Prelude.{◌≡◌, ℕ, ◌-◌, ◌*◌, ◌^◌, ◌==�
 use Rattle.std.specs.List.{fold}
 use Rattle.schemes.specs.declared.parts.Parts.{Parts}
 use Rattle.scheme_figures.specs.Sizes.{directory_sizes, each_node, entry_sizes, table_bytes}
-use Rattle.spreads.specs.Decimals.{quotient}
-use Rattle.spreads.specs.Spreads.{IsSpread}
-use Rattle.spreads.specs.declared.spread.Cell.{Cell}
-use Rattle.spreads.specs.declared.spread.Spread.{Spread}
+use Rattle.statistics.specs.Decimals.{quotient}
+use Rattle.statistics.specs.Spreads.{IsSpread}
+use Rattle.statistics.specs.declared.spread.Cell.{Cell}
+use Rattle.statistics.specs.declared.spread.Spread.{Spread}
 use Rattle.figure_lines.specs.Figures.{Said, thousandths, whole}
 
 -- a number that is kept at the greatest u64

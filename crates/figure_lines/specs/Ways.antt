@@ -4,8 +4,8 @@ use Rattle.std.specs.List.Sorted.{IsSorted}
 use Rattle.std.specs.Ordering.{nat_cmp}
 use Rattle.scheme_figures.specs.Stretches.{is_apart, is_exact, stretches_in}
 use Rattle.scheme_figures.specs.declared.measures.Measured.{Measured}
-use Rattle.spreads.specs.Decimals.{quotient}
-use Rattle.spreads.specs.Places.{place_of}
+use Rattle.statistics.specs.Decimals.{quotient}
+use Rattle.statistics.specs.Places.{place_of}
 use Rattle.figure_lines.specs.Figures.{Said, thousandths, whole}
 use Rattle.figure_lines.specs.Schemes.{kept, share}
 

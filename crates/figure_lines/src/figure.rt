@@ -4,7 +4,7 @@ ghost use Rattle.std.specs.String.{string_bytes};
 ghost use Rattle.figure_lines.specs.Figures.{ArePut, said, thousandths as said_thousandths, thousandths_or_none, whole as said_whole};
 
 use serde::{Described, Serialize, Serializer};
-use spreads::Thousandths;
+use statistics::Thousandths;
 use std::alloc::{AllocError, Global};
 
 /// A figure: what it's called, its value and its unit.

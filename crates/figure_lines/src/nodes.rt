@@ -12,7 +12,7 @@ use crate::ways::mean_of;
 use scheme_figures::{Measured, sent_by, size_at, stretches_of};
 use schemes::Scheme;
 use serde::{Described, Serialize, Serializer};
-use spreads::percentile;
+use statistics::percentile;
 use std::alloc::{AllocError, Global};
 
 /// How large the table of a node is, and how long the ways of what it sends are.

@@ -7,7 +7,7 @@ ghost use Rattle.std.specs.String.{string_bytes};
 use crate::figure::{Figure, push_thousandths, push_whole};
 use scheme_figures::{directory_lengths, entry_counts, full_length, landmark_count, table_lengths};
 use schemes::Scheme;
-use spreads::{Cell, Spread, ratio, spread_of, sum_of};
+use statistics::{Cell, Spread, ratio, spread_of, sum_of};
 use std::alloc::{AllocError, Global};
 
 /// How many landmarks a scheme has, how its entries and directories are spread, and how many bytes its tables take

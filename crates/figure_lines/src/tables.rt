@@ -9,7 +9,7 @@ use crate::figure::{Figure, push_thousandths, push_whole};
 use crate::scheme_tables::{greatest_of, share_of};
 use scheme_figures::{directory_lengths, entry_counts, landmark_count, table_lengths};
 use schemes::Scheme;
-use spreads::sum_of;
+use statistics::sum_of;
 use std::alloc::{AllocError, Global};
 
 /// How many landmarks a scheme has, and the mean and the greatest of its entries, its directories and the bytes of its tables. The name

@@ -6,7 +6,7 @@ ghost use Rattle.figure_lines.specs.Ways.{AreWayFigures, mean_of as mean_in, str
 use crate::figure::{Figure, push_thousandths, push_whole};
 use crate::scheme_tables::share_of;
 use scheme_figures::{Measured, Stretches, stretches_of};
-use spreads::{percentile, rounded, sum_of};
+use statistics::{percentile, rounded, sum_of};
 use std::alloc::{AllocError, Global};
 
 /// How many pairs there are and how many of them no walk joins; of the others the stretch: its mean, its place at 50,

@@ -9,7 +9,7 @@ use std::process::Abort;
 
 // A new device of which this call fails.
 fn failing(rt: &impl Abort, alloc: Global, call: u64) -> MemDisk {
-    let mut disk = got(rt, stand_ins::formatted(alloc, 5));
+    let mut disk = got(rt, test_doubles::formatted(alloc, 5));
     disk.fail_at(call);
     disk
 }

@@ -1,8 +1,8 @@
 -- Which faults may end a command.
 use Rattle.std.proofs.Common.{◌≡◌, ◌≢◌, ℕ, List, sym, subst, Result, Ok, Err, IfErr, IsErrAnd, IsErrOf}
-use Rattle.written_values.specs.declared.words.LandmarkWords.{LandmarkWords}
-use Rattle.written_values.specs.declared.words.LandmarkWords.TheVariants.{Greatest, ZeroAt, Drawn}
-use Rattle.written_values.specs.Words.{IsWithin}
+use Rattle.value_syntax.specs.declared.words.LandmarkWords.{LandmarkWords}
+use Rattle.value_syntax.specs.declared.words.LandmarkWords.TheVariants.{Greatest, ZeroAt, Drawn}
+use Rattle.value_syntax.specs.Words.{IsWithin}
 use Rattle.command_output.specs.declared.fault.Fault.{Fault}
 use Rattle.command_output.specs.declared.fault.Fault.TheVariants as told
 use Rattle.device_commands.specs.Openings.{IsOpenFault, TellsOf}

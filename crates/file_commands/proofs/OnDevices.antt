@@ -14,7 +14,7 @@ use Rattle.layout_2.specs.Layout.{device_len}
 use Rattle.layout_2.specs.State.{State}
 use Rattle.layout_2.specs.Standing.{KeepsThrough}
 use Rattle.generations.specs.declared.posting.Verdict.{Verdict}
-use Rattle.written_values.specs.declared.words.LandmarkWords.{LandmarkWords}
+use Rattle.value_syntax.specs.declared.words.LandmarkWords.{LandmarkWords}
 use Rattle.scheme_builds.specs.declared.queries.Checked.{Checked}
 use Rattle.scheme_builds.specs.declared.queries.Route.{Route}
 use Rattle.command_output.specs.Printing.{Known}

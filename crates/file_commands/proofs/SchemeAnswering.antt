@@ -4,8 +4,8 @@ use Rattle.disk_trait.specs.Disk.{DiskView, IsSameDevice, OnlyRead}
 use Rattle.checkpoint.specs.StoreWords.{disk_of, view_of}
 use Rattle.checkpoint.specs.declared.store.Store.{Store}
 use Rattle.layout_2.specs.State.{State}
-use Rattle.written_values.specs.declared.words.LandmarkWords.{LandmarkWords}
-use Rattle.written_values.specs.Words.{AreWords, IsWithin}
+use Rattle.value_syntax.specs.declared.words.LandmarkWords.{LandmarkWords}
+use Rattle.value_syntax.specs.Words.{AreWords, IsWithin}
 use Rattle.graph_edits.specs.Edges.{Network}
 use Rattle.scheme_builds.specs.declared.queries.Checked.{Checked}
 use Rattle.scheme_builds.specs.Queries.{IsCheckAnswer}

@@ -6,8 +6,8 @@ use Rattle.disk_trait.specs.Disk.{DiskView}
 use Rattle.graph_edits.specs.Edges.{Network}
 use Rattle.schemes.specs.declared.parts.Parts.{Parts}
 use Rattle.scheme_builds.specs.Schemes.{IsSchemeOf}
-use Rattle.written_values.specs.Words.{AreWords, IsWithin}
-use Rattle.written_values.specs.declared.words.LandmarkWords.{LandmarkWords}
+use Rattle.value_syntax.specs.Words.{AreWords, IsWithin}
+use Rattle.value_syntax.specs.declared.words.LandmarkWords.{LandmarkWords}
 use Rattle.command_output.specs.Printing.{Known}
 use Rattle.command_output.specs.declared.ended.Ended.{Ended}
 use Rattle.command_output.specs.declared.fault.Fault.{Fault}

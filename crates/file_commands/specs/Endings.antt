@@ -7,9 +7,9 @@ use Rattle.layout_2.specs.Layout.{device_len}
 use Rattle.layout_2.specs.Standing.{KeepsThrough, StandsFor}
 use Rattle.migrate.specs.Moved.{MovesWholly}
 use Rattle.schemes.specs.declared.parts.Parts.{Parts}
-use Rattle.written_values.specs.Words.{IsWithin}
-use Rattle.written_values.specs.declared.words.LandmarkWords.{LandmarkWords}
-use Rattle.written_values.specs.declared.words.LandmarkWords.TheVariants.{Greatest, ZeroAt, Drawn}
+use Rattle.value_syntax.specs.Words.{IsWithin}
+use Rattle.value_syntax.specs.declared.words.LandmarkWords.{LandmarkWords}
+use Rattle.value_syntax.specs.declared.words.LandmarkWords.TheVariants.{Greatest, ZeroAt, Drawn}
 use Rattle.command_output.specs.declared.fault.Fault.{Fault}
 use Rattle.command_output.specs.declared.fault.Fault.TheVariants as told
 use Rattle.device_commands.specs.Answer.{IsNew, state_after}

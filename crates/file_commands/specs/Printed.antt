@@ -27,7 +27,7 @@ use Rattle.file_commands.specs.Copies.{HasCopied, IsTotalOf, copied_text}
 use Rattle.device_commands.specs.Openings.{OfContent}
 use Rattle.file_commands.specs.declared.copying.Copied.{Copied}
 use Rattle.file_commands.specs.declared.devices.Access.TheVariants.{ToRead}
-use Rattle.written_values.specs.declared.words.LandmarkWords.{LandmarkWords}
+use Rattle.value_syntax.specs.declared.words.LandmarkWords.{LandmarkWords}
 use Rattle.file_commands.specs.declared.on_device.Transfer.{Transfer}
 use Rattle.file_commands.specs.declared.on_device.Transfer.TheVariants as how
 use Rattle.file_commands.specs.Devices.{Doing, IsAnswerOf, OfOpened, OfTwo}

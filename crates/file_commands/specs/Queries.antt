@@ -10,8 +10,8 @@ use Rattle.schemes.specs.declared.parts.Parts.{Parts}
 use Rattle.scheme_builds.specs.declared.queries.Checked.{Checked}
 use Rattle.scheme_builds.specs.declared.queries.Route.{Route}
 use Rattle.scheme_builds.specs.Queries.{IsCheckAnswer}
-use Rattle.written_values.specs.Words.{IsWithin}
-use Rattle.written_values.specs.declared.words.LandmarkWords.{LandmarkWords}
+use Rattle.value_syntax.specs.Words.{IsWithin}
+use Rattle.value_syntax.specs.declared.words.LandmarkWords.{LandmarkWords}
 use Rattle.command_output.specs.declared.fault.Fault.{Fault}
 use Rattle.command_output.specs.declared.fault.Fault.TheVariants as told
 use Rattle.device_commands.specs.Openings.{IsReading, OfContent, TellsNotOpened}

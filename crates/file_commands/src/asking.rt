@@ -17,6 +17,7 @@ where
     requires { F.IsAlwaysCallable ask }
     ensures { AsksDevice (GivesAt F.FnOnce ask) (D.view disk) (D.view result.1) result.0 }
 {
+    // The disk's bytes stand for one state at most, so the answer is of that one.
     standing_law();
     match open(alloc, disk) {
         Ok(store) => {

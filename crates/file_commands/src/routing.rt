@@ -59,6 +59,7 @@ fn route_between(routes: &mut Routes<'_>, from: u16, to: u16) -> Result<Route, A
 
     ensures kept { routes.new ≡ routes.old }
 {
+    // There is one trail at most, and each scheme with these landmarks carries a packet over it.
     trail_laws();
     match routes.route(from, to) {
         Ok(trail) => Ok(Route::Along(trail)),

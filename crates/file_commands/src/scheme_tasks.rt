@@ -1,6 +1,6 @@
 //! The commands `route` and `check`.
 ghost use Rattle.std.specs.Prelude.{◌≡◌, length, IfOk, IfErr, IsErrOf, OnOk};
-ghost use Rattle.written_values.specs.Words.{AreWords, IsWithin};
+ghost use Rattle.value_syntax.specs.Words.{AreWords, IsWithin};
 ghost use Rattle.command_output.specs.Lines.{line};
 ghost use Rattle.command_output.specs.Printing.{PrintsText};
 ghost use Rattle.file_commands.specs.Endings.{IsCheckDeviceFault, IsRouteDeviceFault, IsRouteFault, IsWordsFault};
@@ -20,7 +20,7 @@ use std::alloc::Global;
 use std::io::Write;
 use std::sync::Wait;
 use std::thread::Threads;
-use written_values::LandmarkWords;
+use value_syntax::LandmarkWords;
 
 /// The landmark words of a graph's nodes, as they were asked for. A node that is named and that the graph hasn't isn't understood.
 pub(crate) fn words_of(

@@ -18,7 +18,7 @@ use std::io::Write;
 use std::sync::Wait;
 use std::thread::Threads;
 use table_files::{TableFiles, put_asked};
-use written_values::LandmarkWords;
+use value_syntax::LandmarkWords;
 
 /// The scheme of a graph, by the words that were asked for.
 fn scheme_in_graph<R: Threads + Wait + Sync + AllocGlobal>(

@@ -23,5 +23,6 @@ pub fn forwarding_laws()
     ensures launch_gone { LaunchGone }
     ensures address_gone { AddressGone }
 {
+    // A packet and its bytes stand for one another.
     spelling_laws();
 }

@@ -9,7 +9,7 @@ use generations::{BoardReader, BoardWriter, board};
 use intake::{Editor, Taker, open_intake};
 use packet_ways::BoardName;
 use requests::SESSIONS;
-use service_workers::{ForwarderOf, SessionEditor};
+use service_actors::{BoardForwarder, SessionEditor};
 use std::alloc::{AllocError, Global};
 use std::marker::Brand;
 use std::process::Abort;
@@ -69,7 +69,7 @@ fn in_a_service<J: BoardName>(rt: &impl Abort, editor: Editor, reader: BoardRead
     requires reader { reader.all.opening ≡ J.opening }
 {
     let editor: SessionEditor<J> = SessionEditor::new(editor);
-    let forwarder: ForwarderOf<J> = ForwarderOf::new(reader);
+    let forwarder: BoardForwarder<J> = BoardForwarder::new(reader);
     let known = (editor.known().len(), forwarder.known().len());
     same(rt, known, (postings, postings), "in a service");
 }

@@ -76,6 +76,7 @@ impl Graph {
     pub fn sound(&self)
         ensures { IsSound self.now }
     {
+        // `nodes` tells it.
         let _sound = self.nodes();
     }
 

@@ -3,11 +3,11 @@ use Rattle.std.proofs.Common.{◌≡◌, ℕ, List, [], ◌∷◌, ◌++◌, map
 use Rattle.std.specs.List.{AllByRecursion}
 use Rattle.std.proofs.lemmas.List.{map-append}
 use Rattle.layout_2.specs.State.{State}
-use Rattle.run_laws.specs.Runs.{LeavesPrefix, Holds, IsRun}
-use Rattle.event_runs.specs.declared.event.Event.{Event}
-use Rattle.event_runs.specs.declared.reply.Reply.{Reply}
-use Rattle.run_laws.specs.Listed.{IsListed}
-use Rattle.run_laws.specs.QueueLaws.{AnswersKeep, AcknowledgedStay}
+use Rattle.event_laws.specs.Runs.{LeavesPrefix, Holds, IsRun}
+use Rattle.event_model.specs.declared.event.Event.{Event}
+use Rattle.event_model.specs.declared.reply.Reply.{Reply}
+use Rattle.event_laws.specs.Listed.{IsListed}
+use Rattle.event_laws.specs.QueueLaws.{AnswersKeep, AcknowledgedStay}
 use Rattle.interleave.specs.declared.world.World.{World}
 use Rattle.interleave.specs.WorldWords.{lists_of, machine_of, world_view}
 use Rattle.interleave.specs.Desks.{WorldStep, WorldRun}

@@ -2,7 +2,7 @@
 use Rattle.std.proofs.Common.{◌≡◌, ℕ, zero, suc, List, [], ◌∷◌, take, drop, Bool, refl}
 use Rattle.requests.specs.declared.request.Request.{Request}
 use Rattle.layout_2.specs.State.{State}
-use Rattle.run_laws.specs.History.{Lists}
+use Rattle.event_laws.specs.History.{Lists}
 
 pub lists_are : (taken : List Request) (d d2 : ℕ) (g g2 : List (ℕ × ℕ)) (s s2 : State) (w w2 : Bool) → d ≡ d2 → g ≡ g2 → s ≡ s2 → w ≡ w2
     → ◌≡◌ {A = Lists} (record { taken = taken; done = d; groups = g; state = s; down = w }) (record { taken = taken; done = d2; groups = g2; state = s2; down = w2 })

@@ -3,7 +3,7 @@ use Rattle.std.proofs.Common.{◌≡◌, List, [], ◌∷◌, ◌++◌, refl, ap
 use Rattle.std.specs.Option.{option_map}
 use Rattle.generations.specs.declared.posting.Notice.{Notice}
 use Rattle.generations.specs.declared.posting.Notice.TheVariants.{Marked, Failed, Built}
-use Rattle.event_runs.specs.Answers.{newest_number}
+use Rattle.event_model.specs.Answers.{newest_number}
 use Rattle.generations.proofs.Numbers.{same_newest, now_newest}
 use Rattle.interleave.specs.Stores.{newer}
 

@@ -12,12 +12,12 @@ use Rattle.intake.specs.declared.outcome.SubmitRefused.TheVariants.{QueueFull}
 use Rattle.intake.specs.Outcomes.{outcome_on, refusal_on}
 use Rattle.forwarders.specs.declared.refused.Refused.{Refused}
 use Rattle.forwarders.specs.Answers.{hop_at}
-use Rattle.event_runs.specs.declared.session.Session.{Session}
-use Rattle.event_runs.specs.declared.reply.Reply.{Reply}
-use Rattle.event_runs.specs.declared.reply.Reply.TheVariants.{Submitted, NotSubmitted, Looked, Taken, Idle, NoActor}
-use Rattle.event_runs.specs.Trips.{Trip, launch_by}
-use Rattle.event_runs.specs.Machines.{Machine, held, waiting, board_at, let_in, with_session}
-use Rattle.event_runs.specs.Answers.{Answer, answer, Exactly, OrMemory, submit, submit_by, unless_refused, queue_by, look, look_by, further, take_one, take_by, launch, launch_as, looked, sees, hop, hop_by, hop_as}
+use Rattle.event_model.specs.declared.session.Session.{Session}
+use Rattle.event_model.specs.declared.reply.Reply.{Reply}
+use Rattle.event_model.specs.declared.reply.Reply.TheVariants.{Submitted, NotSubmitted, Looked, Taken, Idle, NoActor}
+use Rattle.event_model.specs.Trips.{Trip, launch_by}
+use Rattle.event_model.specs.Machines.{Machine, held, waiting, board_at, let_in, with_session}
+use Rattle.event_model.specs.Answers.{Answer, answer, Exactly, OrMemory, submit, submit_by, unless_refused, queue_by, look, look_by, further, take_one, take_by, launch, launch_as, looked, sees, hop, hop_by, hop_as}
 
 -- it is answered as it should be
 pub exactly : (a b : Answer) (reply : Reply) (n : Machine) → a ≡ b → reply ≡ b.reply → n ≡ b.after → Exactly a reply n

@@ -19,9 +19,9 @@ use Rattle.group_commit.proofs.TurnLemmas.{behind_at, behind_both, last_own, las
 use Rattle.intake.specs.declared.outcome.SubmitRefused.{SubmitRefused}
 use Rattle.intake.specs.declared.outcome.SubmitRefused.TheVariants.{Busy, AlreadyIn, OldTicket, Worn}
 use Rattle.intake.specs.Outcomes.{refusal_on, outcome_on, is_open}
-use Rattle.run_laws.proofs.Turns.{after_in_append, in_turn_first}
-use Rattle.event_runs.specs.declared.session.Session.{Session}
-use Rattle.event_runs.specs.Machines.{Machine, board_at, fresh_session}
+use Rattle.event_laws.proofs.Turns.{after_in_append, in_turn_first}
+use Rattle.event_model.specs.declared.session.Session.{Session}
+use Rattle.event_model.specs.Machines.{Machine, board_at, fresh_session}
 use Rattle.interleave.specs.Stores.{AreLasts}
 
 -- ---- requests in turn, in parts

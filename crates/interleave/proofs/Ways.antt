@@ -3,7 +3,7 @@ use Rattle.std.proofs.Common.{◌≡◌, ◌<◌, ℕ, List, map, set, get_or, l
 use Rattle.std.specs.Option.{option_map}
 use Rattle.std.proofs.lemmas.List.{map-set, set-get_or}
 use Rattle.std.proofs.lemmas.Option.{slice_get-map, slice_get-get_or}
-use Rattle.event_runs.specs.Trips.{Trip}
+use Rattle.event_model.specs.Trips.{Trip}
 use Rattle.interleave.specs.declared.stored.Way.{Way}
 use Rattle.interleave.specs.Stores.{trip_of}
 

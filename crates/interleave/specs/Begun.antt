@@ -3,10 +3,10 @@ use Rattle.std.specs.Prelude.{◌≡◌, ℕ, [], IsTrue, false}
 use Rattle.checkpoint.specs.StoreWords.{state_of, view_of, is_down}
 use Rattle.group_commit.specs.declared.desk.Desk.{Desk}
 use Rattle.group_commit.specs.DeskWords.{store_of}
-use Rattle.event_runs.specs.Machines.{begun}
-use Rattle.run_laws.specs.Listed.{IsListed}
-use Rattle.run_laws.specs.Runs.{IsRun}
-use Rattle.run_laws.specs.Ways.{AreOnWay}
+use Rattle.event_model.specs.Machines.{begun}
+use Rattle.event_laws.specs.Listed.{IsListed}
+use Rattle.event_laws.specs.Runs.{IsRun}
+use Rattle.event_laws.specs.Ways.{AreOnWay}
 use Rattle.interleave.specs.declared.world.World.{World}
 use Rattle.interleave.specs.WorldWords.{desk_of, lists_of, machine_of, world_view}
 

@@ -1,15 +1,15 @@
 -- What a run says of crashes.
 use Rattle.std.specs.Prelude.{◌++◌, ℕ, List, map, IsTrue}
 use Rattle.layout_2.specs.State.{State}
-use Rattle.run_laws.specs.Acknowledged.{AreAcknowledged}
-use Rattle.run_laws.specs.Happenings.{Happens}
-use Rattle.run_laws.specs.History.{IsPrefixState}
-use Rattle.run_laws.specs.OneLife.{history_of}
-use Rattle.run_laws.specs.Runs.{IsRun, moment_of}
-use Rattle.event_runs.specs.declared.event.Event.{Event}
-use Rattle.event_runs.specs.declared.reply.Reply.{Reply}
-use Rattle.event_runs.specs.Answers.{number_of}
-use Rattle.event_runs.specs.Machines.{Machine}
+use Rattle.event_laws.specs.Acknowledged.{AreAcknowledged}
+use Rattle.event_laws.specs.Happenings.{Happens}
+use Rattle.event_laws.specs.History.{IsPrefixState}
+use Rattle.event_laws.specs.OneLife.{history_of}
+use Rattle.event_laws.specs.Runs.{IsRun, moment_of}
+use Rattle.event_model.specs.declared.event.Event.{Event}
+use Rattle.event_model.specs.declared.reply.Reply.{Reply}
+use Rattle.event_model.specs.Answers.{number_of}
+use Rattle.event_model.specs.Machines.{Machine}
 use Rattle.interleave.specs.declared.world.World.{World}
 use Rattle.interleave.specs.WorldWords.{lists_of, machine_of, world_view}
 use Rattle.interleave.specs.Desks.{WorldRun}

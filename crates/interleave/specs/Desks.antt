@@ -5,10 +5,10 @@ use Rattle.checkpoint.specs.StoreWords.{view_of, is_down, IsDurable, HasAppended
 use Rattle.group_commit.specs.declared.refused.DeskRefused.TheVariants.{Device, Down, Worn}
 use Rattle.group_commit.specs.declared.desk.Desk.{Desk}
 use Rattle.group_commit.specs.DeskWords.{store_of, held_of, settled_of, IsPastLimits}
-use Rattle.event_runs.specs.declared.event.Event.{Event}
-use Rattle.event_runs.specs.declared.event.Event.TheVariants.{Commit}
-use Rattle.event_runs.specs.declared.reply.Reply.{Reply}
-use Rattle.event_runs.specs.declared.reply.Reply.TheVariants.{Committed, NotCommitted, Idle, Memory}
+use Rattle.event_model.specs.declared.event.Event.{Event}
+use Rattle.event_model.specs.declared.event.Event.TheVariants.{Commit}
+use Rattle.event_model.specs.declared.reply.Reply.{Reply}
+use Rattle.event_model.specs.declared.reply.Reply.TheVariants.{Committed, NotCommitted, Idle, Memory}
 use Rattle.interleave.specs.declared.world.World.{World}
 use Rattle.interleave.specs.WorldWords.{desk_of, world_store, world_view}
 use Rattle.interleave.specs.Events.{WorldAnswers}

@@ -1,8 +1,8 @@
 -- What one event does to a world.
 use Rattle.std.specs.Prelude.{◌≡◌}
-use Rattle.event_runs.specs.declared.event.Event.{Event}
-use Rattle.event_runs.specs.declared.reply.Reply.{Reply}
-use Rattle.event_runs.specs.Answers.{Answer, Answers, OrMemory, number_of}
+use Rattle.event_model.specs.declared.event.Event.{Event}
+use Rattle.event_model.specs.declared.reply.Reply.{Reply}
+use Rattle.event_model.specs.Answers.{Answer, Answers, OrMemory, number_of}
 use Rattle.interleave.specs.declared.world.World.{World}
 use Rattle.interleave.specs.WorldWords.{desk_of, lists_of, machine_of, world_store}
 

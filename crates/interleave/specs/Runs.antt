@@ -3,18 +3,18 @@ use Rattle.std.specs.Prelude.{◌≡◌, ◌++◌, ℕ, List, [], ◌∷◌, IsT
 use Rattle.std.specs.List.{AllByRecursion}
 use Rattle.disk_trait.specs.Disk.{MayLeave}
 use Rattle.layout_2.specs.State.{State}
-use Rattle.event_runs.specs.declared.event.Event.{Event}
-use Rattle.event_runs.specs.declared.reply.Reply.{Reply}
-use Rattle.event_runs.specs.Machines.{Machine}
-use Rattle.event_runs.specs.Runs.{Run}
-use Rattle.run_laws.specs.Arriving.{Arrive}
-use Rattle.run_laws.specs.Courses.{AreRoutedWell}
-use Rattle.run_laws.specs.Later.{AllGoOn}
-use Rattle.run_laws.specs.Listed.{IsListed}
-use Rattle.run_laws.specs.Queues.{all_let_in}
-use Rattle.run_laws.specs.Replies.{RunRoutes}
-use Rattle.run_laws.specs.Runs.{IsRun}
-use Rattle.run_laws.specs.Ways.{AreOnWay}
+use Rattle.event_model.specs.declared.event.Event.{Event}
+use Rattle.event_model.specs.declared.reply.Reply.{Reply}
+use Rattle.event_model.specs.Machines.{Machine}
+use Rattle.event_model.specs.Runs.{Run}
+use Rattle.event_laws.specs.Arriving.{Arrive}
+use Rattle.event_laws.specs.Courses.{AreRoutedWell}
+use Rattle.event_laws.specs.Later.{AllGoOn}
+use Rattle.event_laws.specs.Listed.{IsListed}
+use Rattle.event_laws.specs.Queues.{all_let_in}
+use Rattle.event_laws.specs.Replies.{RunRoutes}
+use Rattle.event_laws.specs.Runs.{IsRun}
+use Rattle.event_laws.specs.Ways.{AreOnWay}
 use Rattle.interleave.specs.declared.world.World.{World}
 use Rattle.interleave.specs.WorldWords.{lists_of, machine_of, world_view}
 use Rattle.interleave.specs.Crashes.{HasWorlds, HoldsSince, IsSafeSince}

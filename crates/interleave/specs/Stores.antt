@@ -9,9 +9,9 @@ use Rattle.generations.specs.declared.posting.Notice.{Notice}
 use Rattle.generations.specs.declared.posting.Notice.TheVariants.{Marked, Failed, Built}
 use Rattle.generations.specs.Notices.{notice_of}
 use Rattle.group_commit.specs.Turns.{AreBehind}
-use Rattle.event_runs.specs.declared.session.Session.{Session}
-use Rattle.event_runs.specs.Trips.{Trip}
-use Rattle.event_runs.specs.Machines.{Machine}
+use Rattle.event_model.specs.declared.session.Session.{Session}
+use Rattle.event_model.specs.Trips.{Trip}
+use Rattle.event_model.specs.Machines.{Machine}
 use Rattle.interleave.specs.declared.stored.Way.{Way}
 use Rattle.interleave.specs.declared.stored.Stored.{Stored}
 

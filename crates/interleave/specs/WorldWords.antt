@@ -6,9 +6,9 @@ use Rattle.checkpoint.specs.StoreWords.{state_of, view_of, is_down}
 use Rattle.generations.specs.Notices.{notice_of}
 use Rattle.group_commit.specs.DeskWords.{store_of, due_of}
 use Rattle.group_commit.specs.declared.desk.Desk.{Desk}
-use Rattle.run_laws.specs.History.{Lists}
-use Rattle.event_runs.specs.Machines.{Machine}
-use Rattle.run_laws.specs.OneLife.{history_of}
+use Rattle.event_laws.specs.History.{Lists}
+use Rattle.event_model.specs.Machines.{Machine}
+use Rattle.event_laws.specs.OneLife.{history_of}
 use Rattle.interleave.specs.declared.stored.Stored.{Stored}
 use Rattle.interleave.specs.declared.world.World.{World}
 use Rattle.interleave.specs.Stores.{machine_with}

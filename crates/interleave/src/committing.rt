@@ -6,21 +6,21 @@ ghost use Rattle.requests.specs.declared.request.Request.{Request as Asked};
 ghost use Rattle.layout_2.specs.State.{State};
 ghost use Rattle.scheme_builds.specs.Schemes.{IsSchemeOf};
 ghost use Rattle.generations.specs.Notices.{notice_of};
-ghost use Rattle.run_laws.specs.Happenings.{took};
-ghost use Rattle.event_runs.specs.Machines.{with_posted};
-ghost use Rattle.event_runs.specs.declared.event.Event.TheVariants as events;
-ghost use Rattle.event_runs.specs.Answers.{RebuildAnswers, newest_number, post, number_of};
-ghost use Rattle.run_laws.specs.Listed.{IsListed};
-ghost use Rattle.run_laws.specs.Ways.{AreOnWay};
+ghost use Rattle.event_laws.specs.Happenings.{took};
+ghost use Rattle.event_model.specs.Machines.{with_posted};
+ghost use Rattle.event_model.specs.declared.event.Event.TheVariants as events;
+ghost use Rattle.event_model.specs.Answers.{RebuildAnswers, newest_number, post, number_of};
+ghost use Rattle.event_laws.specs.Listed.{IsListed};
+ghost use Rattle.event_laws.specs.Ways.{AreOnWay};
 
 use crate::room::add;
 use crate::world::World;
 use disk_trait::Disk;
-use event_runs::Reply;
+use event_laws::{lists_law, ways_law};
+use event_model::Reply;
 use generations::Posting;
 use graph_edits::Graph;
 use group_commit::{DeskRefused, MOST_HELD, limits_law, settling_law};
-use run_laws::{lists_law, ways_law};
 use scheme_builds::scheme_of;
 use schemes::Scheme;
 use std::alloc::{AllocError, Global};
@@ -45,6 +45,7 @@ impl<D: Disk> World<D> {
         {
             return Reply::Idle;
         }
+        // A desk with room takes one more.
         limits_law();
         let request = self.stored.asked[self.stored.taken].copy();
         let (session, ticket) = (request.session, request.ticket);
@@ -69,6 +70,7 @@ impl<D: Disk> World<D> {
         if self.stored.groups.reserve(1).is_err() {
             return Reply::Memory;
         }
+        // The marks are those of settling, and the accepted requests lead to the new state.
         settling_law();
         let group = (self.stored.done, self.stored.taken);
         match self.desk.commit(alloc) {
@@ -146,6 +148,7 @@ impl<D: Disk> World<D> {
         ensures listed { (first : State) → IsListed first (machine_of self.old) → IsListed first (machine_of self.new) }
         ensures ways { AreOnWay (machine_of self.old) → AreOnWay (machine_of self.new) }
     {
+        // A rebuild keeps the lists and the ways of packets.
         lists_law();
         ways_law();
         self.build(alloc, words)

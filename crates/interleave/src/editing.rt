@@ -1,9 +1,9 @@
 // Events of editors.
-ghost use Rattle.event_runs.specs.declared.event.Event.TheVariants as events;
+ghost use Rattle.event_model.specs.declared.event.Event.TheVariants as events;
 
 use crate::world::World;
 use disk_trait::Disk;
-use event_runs::{Reply, Session};
+use event_model::{Reply, Session};
 use graph_edits::Change;
 use intake::{SubmitRefused, outcome_of, refusal_of};
 use requests::Request;

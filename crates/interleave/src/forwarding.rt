@@ -1,17 +1,17 @@
 // Events of the forwarder.
 ghost use Rattle.std.specs.Prelude.{◌≡◌, ◌≤◌, ◌<◌, ◌+◌, length, vec_len, vec_capacity, slice_get, Some, Ok};
 ghost use Rattle.forwarders.specs.Answers.{hop_at};
-ghost use Rattle.event_runs.specs.declared.event.Event.TheVariants as events;
-ghost use Rattle.event_runs.specs.Answers.{hop_as, launch_as};
-ghost use Rattle.event_runs.specs.Machines.{with_seen};
-ghost use Rattle.event_runs.specs.Trips.{Trip, hop_reply, hop_way, launch_by};
+ghost use Rattle.event_model.specs.declared.event.Event.TheVariants as events;
+ghost use Rattle.event_model.specs.Answers.{hop_as, launch_as};
+ghost use Rattle.event_model.specs.Machines.{with_seen};
+ghost use Rattle.event_model.specs.Trips.{Trip, hop_reply, hop_way, launch_by};
 ghost use Rattle.interleave.specs.Stores.{trip_of};
 
 use crate::room::add;
 use crate::stored::Way;
 use crate::world::World;
 use disk_trait::Disk;
-use event_runs::Reply;
+use event_model::Reply;
 use forwarders::{Refused, address_on, hop_on, latest_on, launch_on};
 use generations::Board;
 use schemes::{Move, Packet};

@@ -5,8 +5,8 @@ ghost use Rattle.disk_trait.specs.Disk.{IsSameDevice};
 use crate::room::add;
 use crate::world::World;
 use disk_trait::Disk;
-use event_runs::{Event, Reply};
-use run_laws::{acknowledged_law, history_law, lists_law, queue_law, ways_law};
+use event_laws::{acknowledged_law, history_law, lists_law, queue_law, ways_law};
+use event_model::{Event, Reply};
 use std::alloc::{AllocError, Global};
 
 /// What a run answers: one reply for each event, in their order.
@@ -46,6 +46,7 @@ impl<D: Disk> World<D> {
         ensures ran { IsSameDevice (world_view self.old) (world_view self.new) }
         ensures run { HasRun self.old events.now replies.new.items self.new }
     {
+        // Each event keeps the history, the lists, the queue, what is acknowledged, and the ways of packets.
         history_law::<D>();
         lists_law();
         queue_law();

@@ -3,10 +3,10 @@ ghost use Rattle.std.specs.Prelude.{◌≡◌, map, take, max, min, length, IfOk
 ghost use Rattle.requests.specs.Tickets.{last_of};
 ghost use Rattle.generations.specs.Notices.{notice_of};
 ghost use Rattle.generations.specs.Boards.{board_of};
-ghost use Rattle.event_runs.specs.Answers.{newest_number};
+ghost use Rattle.event_model.specs.Answers.{newest_number};
 ghost use Rattle.interleave.specs.Stores.{newer, postings_of};
 
-use event_runs::Session;
+use event_model::Session;
 use generations::{Board, Posting};
 use requests::{Request, SESSIONS};
 use schemes::Packet;

@@ -7,14 +7,14 @@ ghost use Rattle.checkpoint.specs.Kept.{kept_props};
 ghost use Rattle.checkpoint.specs.StoreWords.{state_of};
 ghost use Rattle.group_commit.specs.DeskWords.{store_of, held_of, due_of};
 ghost use Rattle.group_commit.specs.Turns.{AreBehind, in_turn_prop};
-ghost use Rattle.event_runs.specs.Machines.{fresh_session};
+ghost use Rattle.event_model.specs.Machines.{fresh_session};
 ghost use Rattle.interleave.specs.Stores.{AreLasts, behind_prop};
 
 use crate::stored::Stored;
 use disk_trait::{CrashDisk, Disk, Plan};
-use event_runs::Session;
+use event_laws::{history_law, lists_law, ways_law};
+use event_model::Session;
 use group_commit::Desk;
-use run_laws::{history_law, lists_law, ways_law};
 use std::alloc::{AllocError, Global};
 
 /// A desk, and what a life stores beside it.
@@ -69,6 +69,7 @@ impl<D: Disk + Drop> World<D> {
         requires none_due { due_of desk ≡ None }
         ensures { HasBegun desk capacity (length sessions.items) result }
     {
+        // The machine begins as a run with lawful lists, and with no packet off its way.
         history_law::<D>();
         lists_law();
         ways_law();

@@ -3,7 +3,7 @@ use Rattle.std.specs.Prelude.{◌≡◌, ◌⊎◌, ℕ, List, Option, Some, cod
 use Rattle.std.specs.Borrow.{Bor}
 use Rattle.clap.specs.Walk.{Row, Text}
 use Rattle.command_output.specs.Printing.{Known}
-use Rattle.device_stops.specs.declared.watched.Watched.{Watched}
+use Rattle.crash_points.specs.declared.watched.Watched.{Watched}
 use Rattle.disk_trait.specs.declared.disk.Disk.{Ghosts}
 use Rattle.disk_trait.specs.declared.memory.MemDisk.{MemDisk}
 use Rattle.lab_figures.specs.Info.{DoesInfo}

@@ -35,7 +35,7 @@ ghost use Rattle.lab_commands.specs.Commands.{AskHelp, Does, IsHelp};
 ghost use Rattle.lab_commands.specs.Grammar.{program};
 
 use clap::{ArgMatches, Command};
-use device_stops::Watched;
+use crash_points::Watched;
 use disk_trait::{Disk, MemDisk};
 use lab_figures::{info, recent, stats, time};
 use lab_names::{edit, route, show};

@@ -27,7 +27,7 @@ use Rattle.scheme_builds.specs.Schemes.{IsSchemeOf}
 use Rattle.scheme_figures.specs.declared.measures.Measured.{Measured}
 use Rattle.scheme_figures.specs.Measures.{AreMeasured}
 use Rattle.scheme_figures.specs.Pairs.{AreDrawnPairs}
-use Rattle.written_values.specs.Words.{AreWords, IsWithin}
+use Rattle.value_syntax.specs.Words.{AreWords, IsWithin}
 
 -- the text of figures in each layout
 abbrev pub text_in : Layout → List Said → List ℕ

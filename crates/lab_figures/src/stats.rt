@@ -3,7 +3,7 @@ ghost use Rattle.std.specs.Prelude.{◌≡◌, ◌≢◌, ◌≤◌, IfErr, IfOk
 ghost use Rattle.figure_lines.specs.Figures.{said};
 ghost use Rattle.lab_parts.specs.Grammar.{IsCommandOf};
 ghost use Rattle.lab_parts.specs.Words.{rows_in};
-ghost use Rattle.written_values.specs.Words.{IsWithin};
+ghost use Rattle.value_syntax.specs.Words.{IsWithin};
 ghost use Rattle.schemes.specs.Checks.{IsChecked};
 ghost use Rattle.lab_figures.specs.Stats.{AreFiguresOf, AreMeasuredOf, AreRowsOf, AreStatsOf, DoesStats, IsAsked, IsLayout, IsStatsRefused, IsTextOf, PrintsStats, rows_text, text_in};
 ghost use Rattle.lab_figures.specs.Words.{stats_app};
@@ -28,7 +28,7 @@ use std::alloc::{AllocError, Global};
 use std::io::Write;
 use std::sync::Wait;
 use std::thread::Threads;
-use written_values::LandmarkWords;
+use value_syntax::LandmarkWords;
 
 /// What is asked for.
 #[derive(Drop)]

@@ -28,7 +28,7 @@ use std::io::Write;
 use std::rt::{Clock, Files};
 use std::sync::Wait;
 use std::thread::Threads;
-use written_values::LandmarkWords;
+use value_syntax::LandmarkWords;
 
 // What is timed, and how often.
 #[derive(Drop)]

@@ -15,9 +15,9 @@ use Rattle.lab_files.specs.declared.networks.ExportRefused.TheVariants.{Words, P
 use Rattle.lab_files.specs.declared.networks.Form.{Form}
 use Rattle.lab_files.specs.declared.networks.Form.TheVariants.{Edges, Csv, Dimacs, Json, Dot}
 use Rattle.landmarks.specs.Chosen.{IsBound, chosen}
-use Rattle.written_values.specs.Reading.{texts_of}
-use Rattle.written_values.specs.Words.{AreWords, IsWithin}
-use Rattle.written_values.specs.declared.words.LandmarkWords.{LandmarkWords}
+use Rattle.value_syntax.specs.Reading.{texts_of}
+use Rattle.value_syntax.specs.Words.{AreWords, IsWithin}
+use Rattle.value_syntax.specs.declared.words.LandmarkWords.{LandmarkWords}
 
 -- names, as the library has them
 abbrev pub NameList : Type 0

@@ -1,7 +1,7 @@
 //! A network, in the form that is asked for.
 ghost use Rattle.std.specs.Prelude.{◌≡◌, ◌≢◌, IfErr, IfOk, OnOk};
-ghost use Rattle.written_values.specs.Reading.{IfRead};
-ghost use Rattle.written_values.specs.Words.{IsWithin};
+ghost use Rattle.value_syntax.specs.Reading.{IfRead};
+ghost use Rattle.value_syntax.specs.Words.{IsWithin};
 ghost use Rattle.edge_lists.specs.Reading.{IfNoneRead};
 ghost use Rattle.lab_files.specs.Networks.{AreMarksBy, IsExportRefused, IsListOrCsv, IsTextOf, LacksNode, PrintsNetwork};
 
@@ -12,7 +12,7 @@ use lab_parts::{PrintRefused, print};
 use landmarks::choose;
 use std::alloc::{AllocError, Global};
 use std::io::Write;
-use written_values::LandmarkWords;
+use value_syntax::LandmarkWords;
 
 /// In which form a network is printed.
 #[derive(Drop)]

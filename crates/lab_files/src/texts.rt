@@ -11,7 +11,7 @@ use lab_parts::{told, told_at, told_memory};
 use std::alloc::{AllocError, Global};
 use std::fmt::Display;
 use std::io::Write;
-use written_values::number;
+use value_syntax::number;
 
 /// The form of a file.
 #[derive(Clone, Copy, Debug, PartialEq, Eq, Drop)]

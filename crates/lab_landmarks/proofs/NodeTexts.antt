@@ -2,7 +2,7 @@
 use Rattle.std.proofs.Common.{◌≡◌, ℕ, sym, ap, List, [], ◌∷◌, ◌++◌, append-nil}
 use Rattle.std.specs.Prelude.{decimal}
 use Rattle.std.specs.List.{flat_map}
-use Rattle.written_values.specs.WordsText.{nodes_text}
+use Rattle.value_syntax.specs.WordsText.{nodes_text}
 
 -- behind the first each has a comma before it
 pub nodes_after : (x : ℕ) (xs : List ℕ) → nodes_text (x ∷ xs) ≡ decimal x ++ flat_map (λ node. 44 ∷ decimal node) xs

@@ -1,6 +1,6 @@
 -- How chosen landmarks are written.
 use Rattle.std.specs.Prelude.{ℕ, List, [], ◌∷◌, ◌++◌, codes}
-use Rattle.written_values.specs.WordsText.{nodes_text}
+use Rattle.value_syntax.specs.WordsText.{nodes_text}
 
 -- as landmark words: `none`, or `at` with the nodes behind a colon
 abbrev pub choice_text : List ℕ → List ℕ

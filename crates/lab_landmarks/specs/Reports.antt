@@ -2,7 +2,7 @@
 use Rattle.std.specs.Prelude.{true, ◌≡◌, ◌↔◌, ◌<◌, ◌≤◌, ◌++◌, ℕ, List, codes, count_by, map}
 use Rattle.graph_edits.specs.Edges.{Network}
 use Rattle.schemes.specs.declared.parts.Parts.{Parts}
-use Rattle.written_values.specs.Words.{AreDrawn, AreZeroAt, first_state}
+use Rattle.value_syntax.specs.Words.{AreDrawn, AreZeroAt, first_state}
 use Rattle.scheme_builds.specs.Schemes.{IsSchemeOf}
 use Rattle.scheme_figures.specs.Sizes.{IsGreatestSize, table_size}
 use Rattle.figure_lines.specs.Figures.{said}

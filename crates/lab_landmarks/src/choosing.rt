@@ -16,7 +16,7 @@ use std::alloc::AllocError;
 use std::io::Write;
 use std::sync::Wait;
 use std::thread::Threads;
-use written_values::Draws;
+use value_syntax::Draws;
 
 /// What is asked for. A limit that isn't named is four times the square root of the number of nodes.
 #[derive(Clone, Copy)]

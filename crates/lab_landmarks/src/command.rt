@@ -5,7 +5,7 @@ ghost use Rattle.lab_landmarks.specs.Asked.{DoesLandmarks, IsStart, IsWanted};
 ghost use Rattle.lab_landmarks.specs.Words.{landmarks_app};
 ghost use Rattle.lab_parts.specs.Grammar.{IsCommandOf};
 ghost use Rattle.lab_parts.specs.Words.{rows_in};
-ghost use Rattle.written_values.specs.Reading.{IfRead};
+ghost use Rattle.value_syntax.specs.Reading.{IfRead};
 
 use crate::choosing::{Wanted, print_choice};
 use crate::chosen::Chosen;

@@ -9,7 +9,7 @@
 //! is told of them; or the output failed; or memory ran out, and nothing was printed. [`Chosen::status`] is 0 exactly for `Kept`.
 //! [`report_of`] builds the schemes (`IsReport` of `specs/Reports`): the figures are those of the two, `before` of the drawn landmarks and
 //! `after` of the chosen ones, and the limits are kept exactly where no table of the chosen ones has more entries and members than it may have
-//! and no more landmarks stand than may. [`line_of`] writes the landmarks as landmark words: [`written_values::landmark_words`] reads the
+//! and no more landmarks stand than may. [`line_of`] writes the landmarks as landmark words: [`value_syntax::landmark_words`] reads the
 //! same nodes. [`run`] and [`grammar`] are the command.
 //!
 //! ```text

@@ -13,7 +13,7 @@ use schemes::Scheme;
 use std::alloc::{AllocError, Global};
 use std::sync::Wait;
 use std::thread::Threads;
-use written_values::{Draws, LandmarkWords};
+use value_syntax::{Draws, LandmarkWords};
 
 /// The landmarks that were chosen, under which limits, and the seed whose landmarks they are compared with.
 #[derive(Clone, Copy)]

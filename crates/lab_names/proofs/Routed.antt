@@ -13,7 +13,7 @@ use Rattle.edge_lists.specs.declared.called.Called.{Called}
 use Rattle.lab_names.specs.Routes.{ArePairsBy, HasRouted, IsRouted, IsRouteFault, IsUnrouted, PrintsWays, nodes_of}
 use Rattle.lab_names.specs.declared.refused.AskedRefused.TheVariants.{Fault}
 use Rattle.scheme_builds.specs.declared.queries.Route.{Route}
-use Rattle.written_values.specs.declared.words.LandmarkWords.{LandmarkWords}
+use Rattle.value_syntax.specs.declared.words.LandmarkWords.{LandmarkWords}
 
 -- the routes were printed
 pub routed : (called : Called) (words : List (Bor (List ℕ))) (asked : LandmarkWords) (disk left : DiskView) {W : Type 0} (contents : W → Known) (old new : W) (ended : Ended) (pairs : List (ℕ × ℕ)) (answer : Result (ℕ × Vec Route) Told)

@@ -22,7 +22,7 @@ use Rattle.node_names.specs.Words.{StandsFor}
 use Rattle.node_names.specs.declared.refused.OpRefused.TheVariants.{Memory}
 use Rattle.scheme_builds.specs.declared.queries.Route.{Route}
 use Rattle.scheme_builds.specs.declared.queries.Route.TheVariants.{Along, Unreachable}
-use Rattle.written_values.specs.declared.words.LandmarkWords.{LandmarkWords}
+use Rattle.value_syntax.specs.declared.words.LandmarkWords.{LandmarkWords}
 
 -- each word stands for the node at its place
 abbrev pub AreNodesBy : Called → List (Bor (List ℕ)) → List ℕ → Type 0

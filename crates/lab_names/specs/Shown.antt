@@ -16,7 +16,7 @@ use Rattle.lab_parts.specs.States.{Holds}
 use Rattle.lab_parts.specs.Words.{AreLandmarks, IsUsual}
 use Rattle.layout_2.specs.State.{State}
 use Rattle.node_names.specs.Texts.{listing_text}
-use Rattle.written_values.specs.declared.words.LandmarkWords.{LandmarkWords}
+use Rattle.value_syntax.specs.declared.words.LandmarkWords.{LandmarkWords}
 
 -- A device was only read, and where it keeps the model, it holds this state; its nodes are called so by what stands beside it.
 pub record HasNames (stands : Text → Option Text → Type 0) (path : Text) (disk left : DiskView) (state : State) (called : Called) : Type 0 where

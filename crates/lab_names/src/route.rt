@@ -17,7 +17,7 @@ use lab_parts::{
 };
 use std::alloc::{AllocError, Global};
 use std::io::Write;
-use written_values::LandmarkWords;
+use value_syntax::LandmarkWords;
 
 /// Its grammar.
 pub fn grammar<'a>(alloc: Global) -> Result<Command<'a>, AllocError>

@@ -15,7 +15,7 @@ use node_names::{OpRefused, node_by, route_line};
 use scheme_builds::Route;
 use std::alloc::{AllocError, Global};
 use std::io::Write;
-use written_values::LandmarkWords;
+use value_syntax::LandmarkWords;
 
 /// Prints a line for each two nodes of a device, for which these words stand by what its nodes are called: the route of a packet from the
 /// first to the second. They are found by `route_device` of `file_commands`, as the program finds them. The device was only read.

@@ -13,8 +13,8 @@ use Rattle.lab_files.specs.declared.networks.Form.TheVariants.{Edges, Csv, Dimac
 use Rattle.lab_parts.specs.Devices.{OfDevice}
 use Rattle.lab_parts.specs.States.{Holds}
 use Rattle.layout_2.specs.State.{State}
-use Rattle.written_values.specs.Reading.{texts_of}
-use Rattle.written_values.specs.WordsText.{words_text}
+use Rattle.value_syntax.specs.Reading.{texts_of}
+use Rattle.value_syntax.specs.WordsText.{words_text}
 
 -- the form of these two words
 abbrev pub IsForm : Option Text → Option Text → Form → Type 0

@@ -18,7 +18,7 @@ use lab_parts::{
 };
 use std::alloc::{AllocError, Global};
 use std::io::Write;
-use written_values::landmark_words;
+use value_syntax::landmark_words;
 
 /// Its grammar.
 pub fn grammar<'a>(alloc: Global) -> Result<Command<'a>, AllocError>

@@ -30,7 +30,7 @@ use std::alloc::{AllocError, Global};
 use std::fs::{self, File};
 use std::io::{IsTerminal, Write};
 use std::rt::Files;
-use written_values::number;
+use value_syntax::number;
 
 /// Its grammar.
 pub fn grammar<'a>(alloc: Global) -> Result<Command<'a>, AllocError>

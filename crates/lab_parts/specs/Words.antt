@@ -3,9 +3,9 @@ use Rattle.std.specs.Prelude.{◌≡◌, ◌↔◌, ℕ, Bool, List, Option, Non
 use Rattle.clap.specs.Walk.{Row, Text, first_of, rows_of}
 use Rattle.clap.specs.Words.{found_of}
 use Rattle.clap.specs.declared.parser.matches.ArgMatches.{ArgMatches}
-use Rattle.written_values.specs.WordsText.{words_text}
-use Rattle.written_values.specs.declared.words.LandmarkWords.{LandmarkWords}
-use Rattle.written_values.specs.declared.words.LandmarkWords.TheVariants.{Greatest}
+use Rattle.value_syntax.specs.WordsText.{words_text}
+use Rattle.value_syntax.specs.declared.words.LandmarkWords.{LandmarkWords}
+use Rattle.value_syntax.specs.declared.words.LandmarkWords.TheVariants.{Greatest}
 
 -- the words that were given, each with its texts
 abbrev pub rows_in : ArgMatches → List Row

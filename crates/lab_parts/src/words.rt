@@ -1,13 +1,13 @@
 //! How a command lists its words, and what it is given.
 ghost use Rattle.std.specs.Prelude.{◌≡◌, ◌≤◌, IfOk, IfSome, Some, codes, decimal, map, option_map};
 ghost use Rattle.clap.specs.Walk.{all_of, first_of, rule_of, texts};
-ghost use Rattle.written_values.specs.Reading.{IfRead};
+ghost use Rattle.value_syntax.specs.Reading.{IfRead};
 ghost use Rattle.lab_parts.specs.Grammar.{IsArgOf, IsCommandOf, app_with, flag_rule, many_rule, needed_rule, rule_as, rule_for, value_rule, with_shown, word_rule};
 ghost use Rattle.lab_parts.specs.Words.{AreLandmarks, IsFlag, IsUsual, rows_in};
 
 use clap::{Arg, ArgAction, ArgMatches, Command};
 use std::alloc::{AllocError, Global};
-use written_values::{LandmarkWords, landmark_words, number};
+use value_syntax::{LandmarkWords, landmark_words, number};
 
 /// What is said of a word of a command.
 #[derive(Clone, Copy, Drop)]

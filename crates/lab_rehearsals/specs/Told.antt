@@ -2,24 +2,24 @@
 use Rattle.std.specs.Prelude.{◌≡◌, ◌≢◌, ◌⊎◌, ◌<◌, ◌≤◌, ℕ, List, [], Option, Some, codes, length}
 use Rattle.clap.specs.Walk.{Row, Text, first_of}
 use Rattle.command_output.specs.Printing.{Known, PrintsText}
-use Rattle.device_stops.specs.declared.watched.Watched.{Watched}
+use Rattle.crash_points.specs.declared.watched.Watched.{Watched}
 use Rattle.disk_trait.specs.declared.disk.Disk.{Ghosts}
 use Rattle.disk_trait.specs.declared.memory.MemDisk.{MemDisk}
 use Rattle.lab_rehearsals.specs.declared.told.Asked.{Asked}
 use Rattle.lab_rehearsals.specs.declared.told.Asked.TheVariants.{Report, Stops}
 use Rattle.lab_rehearsals.specs.declared.told.NotRehearsed.{NotRehearsed}
 use Rattle.lab_rehearsals.specs.declared.told.NotRehearsed.TheVariants.{Line, Lives, Print}
-use Rattle.rehearsal_lines.specs.declared.line.RehearsalLine.{RehearsalLine}
-use Rattle.rehearsal_lines.specs.Said.{IsFirstRefused, SayRehearsal}
+use Rattle.rehearsal_syntax.specs.declared.line.RehearsalLine.{RehearsalLine}
+use Rattle.rehearsal_syntax.specs.Said.{IsFirstRefused, SayRehearsal}
 use Rattle.rehearsals.specs.declared.asked.Rehearsal.{Rehearsal}
 use Rattle.lab_parts.specs.Devices.{OfFile}
 use Rattle.lab_parts.specs.Words.{IsUsual}
 use Rattle.lab_parts.specs.declared.telling.PrintRefused.TheVariants.{Memory}
 use Rattle.rehearsals.specs.Asked.{AreAsked}
 use Rattle.rehearsals.specs.Rehearsed.{IsRehearsed}
-use Rattle.stop_trials.specs.Texts.{IsTrialsText}
-use Rattle.stop_trials.specs.Trials.{IsTried}
-use Rattle.written_values.specs.Scripts.{lines_of}
+use Rattle.crash_trials.specs.Texts.{IsTrialsText}
+use Rattle.crash_trials.specs.Trials.{IsTried}
+use Rattle.value_syntax.specs.Scripts.{lines_of}
 
 -- The text is a report of the lives of a rehearsal, or of the trials at the stops of its last written life, where there is one.
 abbrev pub IsToldOf : Ghosts MemDisk → Ghosts Watched → Rehearsal → Asked → List ℕ → Type 0

@@ -2,13 +2,13 @@
 ghost use Rattle.std.specs.Prelude.{◌≡◌, ◌≤◌, IfOk};
 ghost use Rattle.lab_parts.specs.Grammar.{IsCommandOf};
 ghost use Rattle.lab_parts.specs.Words.{rows_in};
-ghost use Rattle.written_values.specs.Reading.{IfRead};
+ghost use Rattle.value_syntax.specs.Reading.{IfRead};
 ghost use Rattle.lab_rehearsals.specs.Told.{DoesRehearse, IsAskedFor};
 ghost use Rattle.lab_rehearsals.specs.Words.{rehearse_app};
 
 use crate::told::{Asked, NotRehearsed, rehearse_text};
 use clap::{ArgMatches, Command, value_parser};
-use device_stops::Watched;
+use crash_points::Watched;
 use disk_trait::{Disk, MemDisk};
 use lab_parts::{
     Sources, command, flag, given, is_given, told, told_at, told_memory, told_of, usual, value,

@@ -1,18 +1,18 @@
 //! What is told of a rehearsal's text.
 ghost use Rattle.std.specs.Prelude.{◌≡◌, ◌≢◌, IfErr, IfOk, OnOk};
 ghost use Rattle.std.specs.String.{string_bytes};
-ghost use Rattle.rehearsal_lines.specs.Grammar.{IsRehearsal};
+ghost use Rattle.rehearsal_syntax.specs.Grammar.{IsRehearsal};
 ghost use Rattle.lab_rehearsals.specs.Told.{IsNotRun, IsToldOf, IsToldOfLines, IsWhyNot, PrintsTold};
 
-use device_stops::Watched;
+use crash_points::Watched;
+use crash_trials::try_every_stop;
 use disk_trait::{Disk, MemDisk};
 use lab_parts::{PrintRefused, print};
-use rehearsal_lines::{LineRefused, RehearsalLine, read_rehearsal};
+use rehearsal_syntax::{LineRefused, RehearsalLine, read_rehearsal};
 use rehearsals::{Rehearsal, RehearseRefused, lives_of, rehearse};
 use std::alloc::{AllocError, Global};
 use std::cell::RefCell;
 use std::io::{IsTerminal, Write};
-use stop_trials::try_every_stop;
 
 /// What is asked for of a rehearsal.
 #[derive(Clone, Copy, Debug, PartialEq, Eq, Drop)]

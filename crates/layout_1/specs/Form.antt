@@ -1,10 +1,10 @@
 -- The form of layout 1: its journal lists accepted changes, and its checkpoints hold no tickets.
 use Rattle.std.specs.Prelude.{[]}
 use Rattle.journal.specs.ChangeForm.{change_form}
-use Rattle.layout_parts.specs.Forms.{LayoutForm}
+use Rattle.layout_reader.specs.Forms.{LayoutForm}
 use Rattle.layout_1.specs.Layout.{sizes}
 
--- what the reader and the laws of layout_parts are told of layout 1
+-- what the reader and the laws of layout_reader are told of layout 1
 abbrev pub layout_form : LayoutForm change_form (Unit {0})
 layout_form = record {
   sizes = sizes;

@@ -1,7 +1,7 @@
 -- What the form of layout 1 keeps.
 use Rattle.std.proofs.Common.{refl, arith}
 use Rattle.journal.specs.ChangeForm.{change_is_form}
-use Rattle.layout_parts.specs.Forms.{IsLayoutForm}
+use Rattle.layout_reader.specs.Forms.{IsLayoutForm}
 use Rattle.layout_1.specs.Form.{layout_form}
 
 pub layout_is_form : IsLayoutForm layout_form

@@ -1,7 +1,7 @@
 -- What the front of a device tells: whether it is formatted, and by which layout.
 use Rattle.std.specs.Prelude.{ℕ, List}
-pub use Rattle.layout_parts.specs.Refusals.{HasMagic, LacksMagic}
-use Rattle.layout_parts.specs.Refusals.{HasLayout, HasOtherLayout}
+pub use Rattle.layout_reader.specs.Refusals.{HasMagic, LacksMagic}
+use Rattle.layout_reader.specs.Refusals.{HasLayout, HasOtherLayout}
 use Rattle.layout_1.specs.Layout.{version}
 
 -- a formatted device, but of another layout

@@ -1,6 +1,6 @@
 -- The slot that counts.
 use Rattle.std.specs.Prelude.{ℕ, List}
-use Rattle.layout_parts.specs.Standing.{IsInUse as IsInUseByForm}
+use Rattle.layout_reader.specs.Standing.{IsInUse as IsInUseByForm}
 use Rattle.layout_1.specs.Records.{Entry}
 use Rattle.layout_1.specs.State.{State}
 use Rattle.layout_1.specs.Form.{layout_form}

@@ -1,11 +1,11 @@
 -- Where things stand on a device of layout 1, as its format gives the numbers.
 use Rattle.std.specs.Prelude.{◌+◌, ℕ, List}
 use Rattle.journal.specs.declared.area.Area.{Area}
-use Rattle.layout_parts.specs.declared.sizes.Sizes.{Sizes}
-use Rattle.layout_parts.specs.Sizes.{slot_start as slot_start_of, journal_of as journal_by, version as version_of_sizes}
+use Rattle.layout_reader.specs.declared.sizes.Sizes.{Sizes}
+use Rattle.layout_reader.specs.Sizes.{slot_start as slot_start_of, journal_of as journal_by, version as version_of_sizes}
 pub use Rattle.requests.specs.Tickets.{worn_limit}
-pub use Rattle.layout_parts.specs.Heads.{slots_start, other}
-pub use Rattle.layout_parts.specs.Refusals.{magic}
+pub use Rattle.layout_reader.specs.Heads.{slots_start, other}
+pub use Rattle.layout_reader.specs.Refusals.{magic}
 
 -- how many bytes a device has
 abbrev pub device_len : ℕ

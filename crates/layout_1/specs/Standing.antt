@@ -1,6 +1,6 @@
--- What an image of a device of layout 1 stands for: the definitions of layout_parts, by the form of this layout.
+-- What an image of a device of layout 1 stands for: the definitions of layout_reader, by the form of this layout.
 use Rattle.std.specs.Prelude.{ℕ, List}
-use Rattle.layout_parts.specs.Standing.{StandsFor as StandsForByForm, OneState as OneStateByForm, StandsForNone as StandsForNoneByForm}
+use Rattle.layout_reader.specs.Standing.{StandsFor as StandsForByForm, OneState as OneStateByForm, StandsForNone as StandsForNoneByForm}
 use Rattle.layout_1.specs.State.{State}
 use Rattle.layout_1.specs.Form.{layout_form}
 

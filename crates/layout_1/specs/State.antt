@@ -1,7 +1,7 @@
 -- What a device holds: a network, and how many changes made it.
 use Rattle.std.specs.Prelude.{ℕ, List, Option}
 use Rattle.graph_edits.specs.Edges.{Network}
-use Rattle.layout_parts.specs.State.{State as StateOf, after as after_by}
+use Rattle.layout_reader.specs.State.{State as StateOf, after as after_by}
 use Rattle.layout_1.specs.Records.{Entry}
 use Rattle.layout_1.specs.Form.{layout_form}
 

@@ -1,4 +1,4 @@
-//! Layout 1, as the reader of `layout_parts` takes it.
+//! Layout 1, as the reader of `layout_reader` takes it.
 ghost use Rattle.std.specs.Prelude.{◌≡◌};
 ghost use Rattle.journal.specs.ChangeForm.{change_form};
 ghost use Rattle.layout_1.specs.Form.{layout_form};
@@ -7,7 +7,7 @@ ghost use Rattle.layout_1.specs.FormLaws.{layout_is_form};
 use crate::layout::{MOST_EDGES, SIZES};
 use disk_trait::Disk;
 use graph_edits::{Change, EditRefused, Graph};
-use layout_parts::{Layout, OpenRefused, Sizes};
+use layout_reader::{Layout, OpenRefused, Sizes};
 
 /// The layout whose journal lists changes, and whose checkpoints hold no tickets.
 pub struct Layout1;

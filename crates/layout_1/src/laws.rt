@@ -13,7 +13,7 @@ use crate::layout::{
 pub fn standing_law()
     ensures { OneState }
 {
-    layout_parts::standing_law::<Layout1>()
+    layout_reader::standing_law::<Layout1>()
 }
 
 /// The constants are the numbers of the format.

@@ -4,7 +4,7 @@
 //! committed since. The open slot of greater epoch counts. What an image of a device means is one definition, `StandsFor state image`
 //! (specs/Standing.antt): the state that the checkpoint's edges and the fold of the journal's changes give. An image stands for at most
 //! one state ([`standing_law`]). Each place and size is a constant of [`layout`]. The definition, the reader and the proofs are those of
-//! `layout_parts`, over the form of this layout (specs/Form.antt).
+//! `layout_reader`, over the form of this layout (specs/Form.antt).
 //!
 //! The contract that the layer above uses is that of [`load`]. It syncs, reads, and writes nothing:
 //!
@@ -31,5 +31,5 @@ mod opening;
 
 pub use laws::{layout_law, standing_law};
 pub use layout::{DEVICE_LEN, WORN_LIMIT};
-pub use layout_parts::OpenRefused;
+pub use layout_reader::OpenRefused;
 pub use opening::{Loaded, load};

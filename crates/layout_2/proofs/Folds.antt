@@ -1,11 +1,11 @@
--- Requests after requests: what layout_parts proves of entries, by the form of this layout.
+-- Requests after requests: what layout_reader proves of entries, by the form of this layout.
 use Rattle.std.proofs.Common.{◌≡◌, ◌+◌, List, [], ◌∷◌, ◌++◌, length, Some}
 use Rattle.std.specs.Option.{option_and_then}
 use Rattle.graph_edits.specs.Edges.{Network, most_edges}
 use Rattle.graph_edits.specs.declared.edits.Op.{Op}
 use Rattle.graph_edits.specs.Changes.{fold}
 use Rattle.requests.specs.Tickets.{tickets_after}
-use Rattle.layout_parts.proofs.Folds as parts
+use Rattle.layout_reader.proofs.Folds as parts
 use Rattle.layout_2.specs.Records.{Entry, entries_of}
 use Rattle.layout_2.specs.State.{State, state_with, changes_of, asked, after}
 use Rattle.layout_2.specs.Form.{layout_form}

@@ -1,7 +1,7 @@
 -- The sizes of a checkpoint's text.
 use Rattle.std.proofs.Common.{◌≡◌, ℕ, ◌+◌, ◌*◌, ◌<◌, length}
 use Rattle.std.specs.FinMap.{entries}
-use Rattle.layout_parts.proofs.Texts as parts
+use Rattle.layout_reader.proofs.Texts as parts
 use Rattle.layout_2.specs.Layout.{checkpoint_room, tickets_len, sessions}
 use Rattle.layout_2.specs.State.{State, checkpoint_text, IsLawful}
 use Rattle.layout_2.specs.Form.{layout_form}

@@ -5,7 +5,7 @@ use Rattle.requests.specs.Tickets.{tickets_after}
 use Rattle.requests.specs.Requests.{asked_by}
 use Rattle.requests.proofs.TicketLemmas.{after_append}
 use Rattle.journal.specs.RequestForm.{request_is_form}
-use Rattle.layout_parts.specs.Forms.{IsLayoutForm}
+use Rattle.layout_reader.specs.Forms.{IsLayoutForm}
 use Rattle.layout_2.specs.Form.{layout_form}
 use Rattle.layout_2.specs.Tickets.{asked}
 use Rattle.layout_2.specs.TicketTexts.{tickets_wide, words, same_tickets}

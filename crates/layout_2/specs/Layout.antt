@@ -1,11 +1,11 @@
 -- Where things stand on a device of layout 2, as its format gives the numbers.
 use Rattle.std.specs.Prelude.{◌+◌, ℕ, List}
 use Rattle.journal.specs.declared.area.Area.{Area}
-use Rattle.layout_parts.specs.declared.sizes.Sizes.{Sizes}
-use Rattle.layout_parts.specs.Sizes.{slot_start as slot_start_of, journal_of as journal_by, epoch_at as epoch_by, version as version_of_sizes, header as header_by}
+use Rattle.layout_reader.specs.declared.sizes.Sizes.{Sizes}
+use Rattle.layout_reader.specs.Sizes.{slot_start as slot_start_of, journal_of as journal_by, epoch_at as epoch_by, version as version_of_sizes, header as header_by}
 pub use Rattle.requests.specs.Tickets.{sessions, worn_limit}
-pub use Rattle.layout_parts.specs.Heads.{slots_start, other}
-pub use Rattle.layout_parts.specs.Refusals.{header_len, magic}
+pub use Rattle.layout_reader.specs.Heads.{slots_start, other}
+pub use Rattle.layout_reader.specs.Refusals.{header_len, magic}
 
 -- how many bytes a device has
 abbrev pub device_len : ℕ

@@ -1,12 +1,12 @@
--- What loading a device of layout 2 gives, and what a refusal to load it says: the definitions of layout_parts, by the form of this layout.
+-- What loading a device of layout 2 gives, and what a refusal to load it says: the definitions of layout_reader, by the form of this layout.
 use Rattle.std.specs.Prelude.{ℕ, List}
 use Rattle.disk_trait.specs.Disk.{DiskView}
 use Rattle.requests.specs.declared.request.Request.{Request}
-use Rattle.layout_parts.specs.declared.loaded.Loaded.{Loaded as LoadedOf}
-use Rattle.layout_parts.specs.declared.refusals.OpenRefused.{OpenRefused}
-pub use Rattle.layout_parts.specs.Reading.{IsRead, IsNotRead}
-pub use Rattle.layout_parts.specs.Loading.{state_of}
-use Rattle.layout_parts.specs.Loading.{FitTogether, StandsAsLoaded, IsLoaded as IsLoadedByForm, IsNotLoaded as IsNotLoadedByForm, stands_for as stands_for_by_form}
+use Rattle.layout_reader.specs.declared.loaded.Loaded.{Loaded as LoadedOf}
+use Rattle.layout_reader.specs.declared.refusals.OpenRefused.{OpenRefused}
+pub use Rattle.layout_reader.specs.Reading.{IsRead, IsNotRead}
+pub use Rattle.layout_reader.specs.Loading.{state_of}
+use Rattle.layout_reader.specs.Loading.{FitTogether, StandsAsLoaded, IsLoaded as IsLoadedByForm, IsNotLoaded as IsNotLoadedByForm, stands_for as stands_for_by_form}
 use Rattle.layout_2.specs.Form.{layout_form}
 use Rattle.layout_2.specs.Standing.{StandsFor}
 

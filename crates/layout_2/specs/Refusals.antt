@@ -1,8 +1,8 @@
 -- Why an opening is refused.
 use Rattle.std.specs.Prelude.{ℕ, List}
-use Rattle.layout_parts.specs.declared.refusals.OpenRefused.{OpenRefused}
-pub use Rattle.layout_parts.specs.Refusals.{IsFormatFault, IsFrontFault, IsNoDeviceFault}
-use Rattle.layout_parts.specs.Refusals.{TellsOfLayout}
+use Rattle.layout_reader.specs.declared.refusals.OpenRefused.{OpenRefused}
+pub use Rattle.layout_reader.specs.Refusals.{IsFormatFault, IsFrontFault, IsNoDeviceFault}
+use Rattle.layout_reader.specs.Refusals.{TellsOfLayout}
 use Rattle.layout_2.specs.Layout.{version}
 
 -- what a refusal tells of the content's front

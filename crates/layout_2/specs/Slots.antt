@@ -1,6 +1,6 @@
 -- What a slot holds.
 use Rattle.std.specs.Prelude.{ℕ, List}
-use Rattle.layout_parts.specs.Slots.{HasCheckpoint as HasCheckpointByForm}
+use Rattle.layout_reader.specs.Slots.{HasCheckpoint as HasCheckpointByForm}
 use Rattle.layout_2.specs.State.{State}
 use Rattle.layout_2.specs.Form.{layout_form}
 

@@ -1,7 +1,7 @@
--- What an image of a device of layout 2 stands for: the definitions of layout_parts, by the form of this layout.
+-- What an image of a device of layout 2 stands for: the definitions of layout_reader, by the form of this layout.
 use Rattle.std.specs.Prelude.{ℕ, List}
 use Rattle.disk_trait.specs.Disk.{DiskView}
-use Rattle.layout_parts.specs.Standing.{StandsBy as StandsByForm, StandsFor as StandsForByForm, OneState as OneStateByForm, KeepsThrough as KeepsThroughByForm, StandsForNone as StandsForNoneByForm}
+use Rattle.layout_reader.specs.Standing.{StandsBy as StandsByForm, StandsFor as StandsForByForm, OneState as OneStateByForm, KeepsThrough as KeepsThroughByForm, StandsForNone as StandsForNoneByForm}
 use Rattle.layout_2.specs.Records.{Entry}
 use Rattle.layout_2.specs.State.{State}
 use Rattle.layout_2.specs.Form.{layout_form}

@@ -3,8 +3,8 @@ use Rattle.std.specs.Prelude.{ℕ, List, replicate, Option}
 use Rattle.std.specs.FinMap.{empty}
 use Rattle.graph_edits.specs.declared.edits.Op.{Op}
 use Rattle.graph_edits.specs.Edges.{Network}
-pub use Rattle.layout_parts.specs.EdgeTexts.{edge_text, edges_text, IsEdge}
-use Rattle.layout_parts.specs.State.{State as StateOf, after as after_by, changes_of as changes_by, checkpoint_text as checkpoint_text_by, state_text as state_text_by, IsLawful as IsLawfulBy}
+pub use Rattle.layout_reader.specs.EdgeTexts.{edge_text, edges_text, IsEdge}
+use Rattle.layout_reader.specs.State.{State as StateOf, after as after_by, changes_of as changes_by, checkpoint_text as checkpoint_text_by, state_text as state_text_by, IsLawful as IsLawfulBy}
 pub use Rattle.layout_2.specs.Tickets.{asked, IsNext, AreInTurn, AreTickets, tickets_text}
 use Rattle.layout_2.specs.Records.{Entry}
 use Rattle.layout_2.specs.Layout.{sessions, sizes}

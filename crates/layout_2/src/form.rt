@@ -1,4 +1,4 @@
-//! Layout 2, as the reader of `layout_parts` takes it.
+//! Layout 2, as the reader of `layout_reader` takes it.
 ghost use Rattle.std.specs.Prelude.{◌≡◌};
 ghost use Rattle.journal.specs.RequestForm.{request_form};
 ghost use Rattle.layout_2.specs.Form.{layout_form};
@@ -8,7 +8,7 @@ use crate::layout::{SIZES, TICKETS_LEN};
 use crate::tickets::{are_sound, is_next, tickets_of};
 use disk_trait::Disk;
 use graph_edits::{EditRefused, Graph};
-use layout_parts::{Layout, OpenRefused, Sizes, read_array};
+use layout_reader::{Layout, OpenRefused, Sizes, read_array};
 use requests::{Request, SESSIONS};
 
 /// The layout whose journal lists requests, and whose checkpoints hold the last ticket of each session.

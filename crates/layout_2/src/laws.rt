@@ -15,7 +15,7 @@ use requests::SESSIONS;
 pub fn standing_law()
     ensures { OneState }
 {
-    layout_parts::standing_law::<Layout2>()
+    layout_reader::standing_law::<Layout2>()
 }
 
 /// The constants are the numbers of the format.

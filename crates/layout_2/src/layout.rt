@@ -1,7 +1,7 @@
 //! Where things stand on a device of layout 2, and the limits of its numbers.
 
-use layout_parts::Sizes;
-pub use layout_parts::layout::{EDGE_LEN, HEAD_LEN, HEADER_LEN, MAGIC, OPEN_GATE, SLOTS_START};
+use layout_reader::Sizes;
+pub use layout_reader::layout::{EDGE_LEN, HEAD_LEN, HEADER_LEN, MAGIC, OPEN_GATE, SLOTS_START};
 use requests::SESSIONS;
 
 /// The greatest count of accepted changes, the greatest epoch and the greatest ticket: 2^63 - 1.
@@ -43,7 +43,7 @@ pub const SLOT_ROOM: usize = CHECKPOINT_ROOM + JOURNAL_ROOM;
 /// The number of bytes of a device.
 pub const DEVICE_LEN: usize = SLOTS_START + 2 * SLOT_ROOM;
 
-/// These numbers, as the reader of `layout_parts` takes them.
+/// These numbers, as the reader of `layout_reader` takes them.
 pub const SIZES: Sizes = Sizes {
     digit: VERSION[1],
     most_nodes: MOST_NODES,

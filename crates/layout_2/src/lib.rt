@@ -5,7 +5,7 @@
 //! one definition, `StandsFor state image` (specs/Standing.antt): the state that the checkpoint and the fold of the journal's requests
 //! give, each request in turn: its session is there, and its ticket is above the session's last one and within the limit. An image stands
 //! for at most one state ([`standing_law`]). Each place and size is a constant of [`layout`], proved equal to the format's number by
-//! [`layout_law`]. The definition, the reader and the proofs are those of `layout_parts`, over the form of this layout (specs/Form.antt).
+//! [`layout_law`]. The definition, the reader and the proofs are those of `layout_reader`, over the form of this layout (specs/Form.antt).
 //!
 //! The contract that the layer above uses is that of [`load`]. It syncs, reads, and writes nothing:
 //!
@@ -33,5 +33,5 @@ mod tickets;
 
 pub use laws::{layout_law, standing_law};
 pub use layout::{DEVICE_LEN, WORN_LIMIT};
-pub use layout_parts::OpenRefused;
+pub use layout_reader::OpenRefused;
 pub use opening::{Loaded, journal_area, load};

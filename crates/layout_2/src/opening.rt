@@ -7,13 +7,13 @@ use crate::form::Layout2;
 use crate::layout::SIZES;
 use disk_trait::Disk;
 use journal::Area;
-use layout_parts::OpenRefused;
+use layout_reader::OpenRefused;
 use requests::{Request, SESSIONS};
 use std::alloc::Global;
 
 /// What stands on a device: the state, and the slot, the checkpoint and the journal that it comes from. `tickets` is the last ticket of
 /// each session.
-pub type Loaded = layout_parts::Loaded<Request, [u64; SESSIONS]>;
+pub type Loaded = layout_reader::Loaded<Request, [u64; SESSIONS]>;
 
 /// Where a slot's journal stands.
 pub fn journal_area(slot: usize) -> Area
@@ -28,5 +28,5 @@ pub fn load<D: Disk>(alloc: Global, disk: &mut D) -> Result<Loaded, OpenRefused>
     ensures ok { IfOk result (IsLoaded (D.view disk.old) (D.view disk.new)) }
     ensures refused { IfErr result (IsNotLoaded (D.view disk.old) (D.view disk.new)) }
 {
-    layout_parts::load::<Layout2, D>(alloc, disk)
+    layout_reader::load::<Layout2, D>(alloc, disk)
 }

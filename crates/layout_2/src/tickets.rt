@@ -6,7 +6,7 @@ ghost use Rattle.layout_2.specs.Tickets.{tickets_text, IsNext, AreTickets};
 
 use crate::layout::{TICKET_LEN, WORN_LIMIT};
 use arrayvec::ArrayVec;
-use layout_parts::u64_of;
+use layout_reader::u64_of;
 use requests::{Request, SESSIONS};
 
 /// The last tickets that the bytes list.

@@ -5,14 +5,14 @@ use Rattle.layout_2.specs.State.{State}
 use Rattle.layout_2.specs.Standing.{StandsFor, OneState}
 use Rattle.layout_2.specs.Fronts.{LacksMagic, HasOtherVersion, HasThisVersion}
 use Rattle.layout_2.specs.Refusals.{TellsOf}
-use Rattle.layout_parts.specs.declared.refusals.OpenRefused.{OpenRefused}
-use Rattle.layout_parts.specs.declared.refusals.OpenRefused.TheVariants.{NotFormatted, BadVersion, Damaged, Device, Memory}
-use Rattle.run_laws.specs.History.{state_at}
-use Rattle.event_runs.specs.Machines.{Machine}
-use Rattle.run_laws.specs.Listed.{IsListed}
-use Rattle.run_laws.specs.OneLife.{history_of, life_of as life_in}
-use Rattle.run_laws.specs.LaterLives.{IsLife, Follows, AreChained as AreJoined}
-use Rattle.run_laws.specs.OnceLaws.{ExactlyOnce}
+use Rattle.layout_reader.specs.declared.refusals.OpenRefused.{OpenRefused}
+use Rattle.layout_reader.specs.declared.refusals.OpenRefused.TheVariants.{NotFormatted, BadVersion, Damaged, Device, Memory}
+use Rattle.event_laws.specs.History.{state_at}
+use Rattle.event_model.specs.Machines.{Machine}
+use Rattle.event_laws.specs.Listed.{IsListed}
+use Rattle.event_laws.specs.OneLife.{history_of, life_of as life_in}
+use Rattle.event_laws.specs.LaterLives.{IsLife, Follows, AreChained as AreJoined}
+use Rattle.event_laws.specs.OnceLaws.{ExactlyOnce}
 use Rattle.interleave.specs.WorldWords.{machine_of}
 use Rattle.life_chain.specs.declared.life.Life.{Life}
 use Rattle.life_chain.specs.declared.report.LifeReport.{LifeReport}

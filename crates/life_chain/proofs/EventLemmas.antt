@@ -14,14 +14,14 @@ use Rattle.forwarders.specs.Answers.{hop_at}
 use Rattle.intake.specs.declared.outcome.SubmitRefused.{SubmitRefused}
 use Rattle.intake.specs.declared.outcome.SubmitRefused.TheVariants.{QueueFull}
 use Rattle.intake.specs.Outcomes.{refusal_on}
-use Rattle.event_runs.specs.declared.session.Session.{Session}
-use Rattle.event_runs.specs.declared.event.Event.{Event}
-use Rattle.event_runs.specs.declared.event.Event.TheVariants.{Submit, Look, Take, Commit, Post, Rebuild, Launch, Hop}
-use Rattle.event_runs.specs.declared.reply.Reply.{Reply}
-use Rattle.event_runs.specs.declared.reply.Reply.TheVariants.{Submitted, NotSubmitted, Taken, Committed, NotCommitted, Rebuilt, NotRebuilt, Idle, NoActor, Memory}
-use Rattle.event_runs.specs.Trips.{Trip, launch_by}
-use Rattle.event_runs.specs.Machines.{Machine, held, waiting, board_at, let_in, committed}
-use Rattle.event_runs.specs.Answers.{Answer, answer, unless_refused, submit_by, submit, look_by, look, take_by, take_one, post_by, post, CommitAnswers, IsBuilt, RebuildAnswers, sees, looked, launch_as, launch, hop_as, hop_by, hop, OrMemory, Answers, number_of}
+use Rattle.event_model.specs.declared.session.Session.{Session}
+use Rattle.event_model.specs.declared.event.Event.{Event}
+use Rattle.event_model.specs.declared.event.Event.TheVariants.{Submit, Look, Take, Commit, Post, Rebuild, Launch, Hop}
+use Rattle.event_model.specs.declared.reply.Reply.{Reply}
+use Rattle.event_model.specs.declared.reply.Reply.TheVariants.{Submitted, NotSubmitted, Taken, Committed, NotCommitted, Rebuilt, NotRebuilt, Idle, NoActor, Memory}
+use Rattle.event_model.specs.Trips.{Trip, launch_by}
+use Rattle.event_model.specs.Machines.{Machine, held, waiting, board_at, let_in, committed}
+use Rattle.event_model.specs.Answers.{Answer, answer, unless_refused, submit_by, submit, look_by, look, take_by, take_one, post_by, post, CommitAnswers, IsBuilt, RebuildAnswers, sees, looked, launch_as, launch, hop_as, hop_by, hop, OrMemory, Answers, number_of}
 use Rattle.life_chain.specs.Groups.{Given, with_group}
 
 -- what the committer has come to in a machine

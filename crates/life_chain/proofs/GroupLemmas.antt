@@ -3,15 +3,15 @@ use Rattle.std.proofs.Common.{arith, ◌≡◌, ◌<◌, ◌≤◌, ⊎_elim, �
 use Rattle.std.proofs.lemmas.Bool.Decides.{nat_tests}
 use Rattle.layout_2.specs.State.{State}
 use Rattle.group_commit.specs.declared.refused.DeskRefused.TheVariants.{Device, Worn}
-use Rattle.event_runs.specs.declared.event.Event.{Event}
-use Rattle.event_runs.specs.declared.event.Event.TheVariants.{Commit}
-use Rattle.event_runs.specs.declared.reply.Reply.{Reply}
-use Rattle.event_runs.specs.declared.reply.Reply.TheVariants.{Taken, Committed, NotCommitted, Rebuilt, NotRebuilt, Memory}
-use Rattle.event_runs.specs.Machines.{Machine, begun}
-use Rattle.event_runs.specs.Answers.{RebuildAnswers}
-use Rattle.run_laws.specs.History.{Whole, EndBy}
-use Rattle.run_laws.specs.Replies.{RunRoutes}
-use Rattle.run_laws.proofs.PrefixLemmas.{ends_more, ends_push, whole_ends, whole_push}
+use Rattle.event_model.specs.declared.event.Event.{Event}
+use Rattle.event_model.specs.declared.event.Event.TheVariants.{Commit}
+use Rattle.event_model.specs.declared.reply.Reply.{Reply}
+use Rattle.event_model.specs.declared.reply.Reply.TheVariants.{Taken, Committed, NotCommitted, Rebuilt, NotRebuilt, Memory}
+use Rattle.event_model.specs.Machines.{Machine, begun}
+use Rattle.event_model.specs.Answers.{RebuildAnswers}
+use Rattle.event_laws.specs.History.{Whole, EndBy}
+use Rattle.event_laws.specs.Replies.{RunRoutes}
+use Rattle.event_laws.proofs.PrefixLemmas.{ends_more, ends_push, whole_ends, whole_push}
 use Rattle.life_chain.specs.Groups.{Given, nothing_given, with_group, given_after, given_by}
 use Rattle.life_chain.proofs.EventLemmas.{Tally, come_to, stored_after, gives, rebuild_keeps}
 

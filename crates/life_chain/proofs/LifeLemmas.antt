@@ -10,18 +10,18 @@ use Rattle.requests.specs.declared.request.Request.{Request}
 use Rattle.layout_2.specs.State.{State, state_with}
 use Rattle.generations.specs.declared.posting.Notice.{Notice}
 use Rattle.group_commit.specs.Settling.{settle}
-use Rattle.run_laws.specs.History.{Lists, begun as none_yet, state_at, IsPrefixState}
-use Rattle.run_laws.specs.Runs.{IsRun}
-use Rattle.event_runs.specs.declared.event.Event.{Event}
-use Rattle.event_runs.specs.declared.reply.Reply.{Reply}
-use Rattle.event_runs.specs.declared.reply.Reply.TheVariants.{Rebuilt}
-use Rattle.event_runs.specs.Machines.{Machine, begun}
-use Rattle.event_runs.specs.Answers.{RebuildAnswers}
-use Rattle.run_laws.specs.Listed.{IsListed}
-use Rattle.run_laws.specs.OneLife.{history_of}
-use Rattle.run_laws.specs.QueueLaws.{AcknowledgedStay}
-use Rattle.run_laws.specs.Queues.{all_let_in}
-use Rattle.run_laws.specs.Replies.{RunRoutes}
+use Rattle.event_laws.specs.History.{Lists, begun as none_yet, state_at, IsPrefixState}
+use Rattle.event_laws.specs.Runs.{IsRun}
+use Rattle.event_model.specs.declared.event.Event.{Event}
+use Rattle.event_model.specs.declared.reply.Reply.{Reply}
+use Rattle.event_model.specs.declared.reply.Reply.TheVariants.{Rebuilt}
+use Rattle.event_model.specs.Machines.{Machine, begun}
+use Rattle.event_model.specs.Answers.{RebuildAnswers}
+use Rattle.event_laws.specs.Listed.{IsListed}
+use Rattle.event_laws.specs.OneLife.{history_of}
+use Rattle.event_laws.specs.QueueLaws.{AcknowledgedStay}
+use Rattle.event_laws.specs.Queues.{all_let_in}
+use Rattle.event_laws.specs.Replies.{RunRoutes}
 use Rattle.interleave.specs.declared.world.World.{World}
 use Rattle.interleave.specs.WorldWords.{lists_of, machine_of, world_view}
 use Rattle.interleave.specs.Crashes.{HoldsSince, HasWorlds}

@@ -2,7 +2,7 @@
 use Rattle.std.proofs.Common.{◌≡◌, ◌++◌, List, [], ◌∷◌, sym, subst}
 use Rattle.std.specs.Prelude.{slice_index_or, remove}
 use Rattle.std.specs.declared.vec.Vec.{Vec}
-use Rattle.event_runs.specs.declared.reply.Reply.{Reply}
+use Rattle.event_model.specs.declared.reply.Reply.{Reply}
 use Rattle.life_chain.specs.declared.life.Life.{Life}
 use Rattle.life_chain.specs.Rooms.{IsRoomFor, HaveRooms}
 

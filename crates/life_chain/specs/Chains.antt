@@ -1,11 +1,11 @@
 -- Lives of one device, one after another.
 use Rattle.std.specs.Prelude.{◌≡◌, ◌≤◌, ℕ, List, [], ◌∷◌, length, map, take, Option, Some, None}
 use Rattle.layout_2.specs.Standing.{StandsFor}
-use Rattle.layout_parts.specs.Refusals.{IsFormatFault}
-use Rattle.layout_parts.specs.declared.refusals.OpenRefused.{OpenRefused}
-use Rattle.run_laws.specs.History.{state_at, Whole}
-use Rattle.run_laws.specs.Acknowledged.{AreAcknowledged}
-use Rattle.run_laws.specs.OnceLaws.{IsExactlyOnce}
+use Rattle.layout_reader.specs.Refusals.{IsFormatFault}
+use Rattle.layout_reader.specs.declared.refusals.OpenRefused.{OpenRefused}
+use Rattle.event_laws.specs.History.{state_at, Whole}
+use Rattle.event_laws.specs.Acknowledged.{AreAcknowledged}
+use Rattle.event_laws.specs.OnceLaws.{IsExactlyOnce}
 use Rattle.life_chain.specs.declared.life.Life.{Life}
 use Rattle.life_chain.specs.declared.report.LifeReport.{LifeReport}
 use Rattle.life_chain.specs.Groups.{groups_given}

@@ -1,10 +1,10 @@
 -- What the events and replies of a life say of its committer.
 use Rattle.std.specs.Prelude.{ℕ, List, [], ◌∷◌, ◌++◌, ◌+◌, Bool, true, false, cond}
 use Rattle.group_commit.specs.declared.refused.DeskRefused.TheVariants.{Device, Worn}
-use Rattle.event_runs.specs.declared.event.Event.{Event}
-use Rattle.event_runs.specs.declared.event.Event.TheVariants.{Commit}
-use Rattle.event_runs.specs.declared.reply.Reply.{Reply}
-use Rattle.event_runs.specs.declared.reply.Reply.TheVariants.{Taken, Committed, NotCommitted, Memory}
+use Rattle.event_model.specs.declared.event.Event.{Event}
+use Rattle.event_model.specs.declared.event.Event.TheVariants.{Commit}
+use Rattle.event_model.specs.declared.reply.Reply.{Reply}
+use Rattle.event_model.specs.declared.reply.Reply.TheVariants.{Taken, Committed, NotCommitted, Memory}
 
 -- how many requests it took, how many of these are settled, the groups that it gave to commits, each from one place of the requests up
 -- to another, and whether the device failed

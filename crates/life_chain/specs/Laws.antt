@@ -1,7 +1,7 @@
 -- What lives of a disk are good for.
 use Rattle.std.specs.Prelude.{ℕ, List, ◌++◌, Option, None}
 use Rattle.disk_trait.specs.declared.disk.Disk.{Ghosts}
-use Rattle.layout_parts.specs.declared.refusals.OpenRefused.{OpenRefused}
+use Rattle.layout_reader.specs.declared.refusals.OpenRefused.{OpenRefused}
 use Rattle.life_chain.specs.declared.life.Life.{Life}
 use Rattle.life_chain.specs.declared.report.LifeReport.{LifeReport}
 use Rattle.life_chain.specs.Sound.{AreEach, IsNotOpened, IsSound}

@@ -3,16 +3,16 @@ use Rattle.std.specs.Prelude.{◌≡◌, ℕ, List, [], ◌∷◌, Option, false
 use Rattle.disk_trait.specs.declared.disk.Disk.{Ghosts}
 use Rattle.layout_2.specs.State.{State}
 use Rattle.layout_2.specs.Refusals.{TellsOf}
-use Rattle.layout_parts.specs.declared.refusals.OpenRefused.{OpenRefused}
+use Rattle.layout_reader.specs.declared.refusals.OpenRefused.{OpenRefused}
 use Rattle.schemes.specs.declared.parts.Parts.{Parts}
 use Rattle.generations.specs.declared.posting.Notice.TheVariants.{Built}
 use Rattle.scheme_builds.specs.Schemes.{IsSchemeOf}
-use Rattle.event_runs.specs.declared.reply.Reply.{Reply}
-use Rattle.event_runs.specs.declared.reply.Reply.TheVariants.{Rebuilt}
-use Rattle.event_runs.specs.Machines.{Machine, begun}
-use Rattle.event_runs.specs.Answers.{RebuildAnswers}
-use Rattle.run_laws.specs.Listed.{IsListed}
-use Rattle.run_laws.specs.Replies.{RunRoutes}
+use Rattle.event_model.specs.declared.reply.Reply.{Reply}
+use Rattle.event_model.specs.declared.reply.Reply.TheVariants.{Rebuilt}
+use Rattle.event_model.specs.Machines.{Machine, begun}
+use Rattle.event_model.specs.Answers.{RebuildAnswers}
+use Rattle.event_laws.specs.Listed.{IsListed}
+use Rattle.event_laws.specs.Replies.{RunRoutes}
 use Rattle.interleave.specs.declared.world.World.{World}
 use Rattle.interleave.specs.WorldWords.{machine_of}
 use Rattle.interleave.specs.Desks.{WorldRun}

@@ -4,9 +4,9 @@ use Rattle.requests.specs.declared.request.Request.{Request}
 use Rattle.layout_2.specs.State.{State, state_with}
 use Rattle.generations.specs.declared.posting.Notice.{Notice}
 use Rattle.generations.specs.Notices.{notice_of}
-use Rattle.event_runs.specs.Machines.{Machine}
+use Rattle.event_model.specs.Machines.{Machine}
 use Rattle.interleave.specs.Stores.{machine_with}
-use Rattle.run_laws.specs.LaterLives.{LifeLists}
+use Rattle.event_laws.specs.LaterLives.{LifeLists}
 use Rattle.life_chain.specs.declared.report.LifeReport.{LifeReport}
 
 -- the state that it opened to

@@ -1,7 +1,7 @@
 -- Room for replies.
 use Rattle.std.specs.Prelude.{◌≡◌, ◌≤◌, List, [], ◌∷◌, length, vec_capacity}
 use Rattle.std.specs.declared.vec.Vec.{Vec}
-use Rattle.event_runs.specs.declared.reply.Reply.{Reply}
+use Rattle.event_model.specs.declared.reply.Reply.{Reply}
 use Rattle.life_chain.specs.declared.life.Life.{Life}
 
 -- an empty list with room for the replies of a life

@@ -5,20 +5,20 @@ use Rattle.disk_trait.specs.Disk.{MayLeave, IsSettled, IsSameDevice, OnlyRead}
 use Rattle.disk_trait.specs.declared.disk.Disk.{Ghosts}
 use Rattle.layout_2.specs.State.{State}
 use Rattle.layout_2.specs.Standing.{StandsFor, StandsForNone}
-use Rattle.layout_parts.specs.Refusals.{IsFormatFault, IsNoDeviceFault}
-use Rattle.layout_parts.specs.declared.refusals.OpenRefused.{OpenRefused}
-use Rattle.layout_parts.specs.declared.refusals.OpenRefused.TheVariants.{Device}
+use Rattle.layout_reader.specs.Refusals.{IsFormatFault, IsNoDeviceFault}
+use Rattle.layout_reader.specs.declared.refusals.OpenRefused.{OpenRefused}
+use Rattle.layout_reader.specs.declared.refusals.OpenRefused.TheVariants.{Device}
 use Rattle.schemes.specs.declared.parts.Parts.{Parts}
 use Rattle.schemes.specs.Service.{Serves}
 use Rattle.schemes.specs.Tables.{tables}
 use Rattle.generations.specs.declared.posting.Notice.TheVariants.{Built}
 use Rattle.checkpoint.specs.StoreWords.{disk_of}
-use Rattle.event_runs.specs.declared.reply.Reply.{Reply}
-use Rattle.event_runs.specs.declared.reply.Reply.TheVariants.{Rebuilt}
-use Rattle.event_runs.specs.Machines.{Machine}
-use Rattle.run_laws.specs.History.{Whole}
-use Rattle.run_laws.specs.Queues.{all_let_in}
-use Rattle.run_laws.specs.Courses.{AreRoutedWell}
+use Rattle.event_model.specs.declared.reply.Reply.{Reply}
+use Rattle.event_model.specs.declared.reply.Reply.TheVariants.{Rebuilt}
+use Rattle.event_model.specs.Machines.{Machine}
+use Rattle.event_laws.specs.History.{Whole}
+use Rattle.event_laws.specs.Queues.{all_let_in}
+use Rattle.event_laws.specs.Courses.{AreRoutedWell}
 use Rattle.interleave.specs.declared.world.World.{World}
 use Rattle.interleave.specs.WorldWords.{machine_of, world_store, world_view}
 use Rattle.interleave.specs.Crashes.{HoldsSince}

@@ -11,7 +11,7 @@ use crate::report::{LifeReport, LivesReport};
 use crate::rooms::{Rooms, add, room_for_all};
 use checkpoint::standing_law;
 use disk_trait::{CrashDisk, Disk, MemDisk};
-use run_laws::{exactly_once_laws, tickets_law};
+use event_laws::{exactly_once_laws, tickets_law};
 use std::alloc::{AllocError, Global};
 
 /// Lives one after another: the device is opened, a generation is built by the life's words, its plan is armed; then come the events,
@@ -95,6 +95,7 @@ fn lives_by<D: CrashDisk + Drop, C: Crash<D>>(
 
     ensures no_memory { OnErr result.0 (result.1 ≡ disk) }
 {
+    // What a life leaves is what the next one opens, and the tickets of the two are in turn.
     standing_law();
     tickets_law();
     exactly_once_laws();

@@ -4,7 +4,7 @@ ghost use Rattle.life_chain.specs.Words.{IsLeftByWord, any_word};
 
 use checkpoint::standing_law;
 use disk_trait::{CrashDisk, Disk, MemDisk};
-use run_laws::{exactly_once_laws, tickets_law};
+use event_laws::{exactly_once_laws, tickets_law};
 
 /// Two calls are one: lives of a disk, and then more lives of the disk that these left, are lives of the first disk. And what is said of
 /// lives follows from that they are lives: each next one is one of the life before, and each ticket is in at most once.
@@ -14,6 +14,7 @@ pub fn lives_law<D: CrashDisk>()
     ensures one_in_memory { AreOne ⟦<MemDisk as Disk>⟧ IsLeftByWord }
     ensures next_in_memory { AreNext ⟦<MemDisk as Disk>⟧ IsLeftByWord }
 {
+    // A left disk stands for one state, which holds what was acknowledged; its tickets rise.
     standing_law();
     tickets_law();
     exactly_once_laws();

@@ -14,7 +14,7 @@
 //! |---|---|
 //! | `first` | the first life opens to what the disk stands for |
 //! | `chained` | each next life opens to a prefix state of the one before (`IsNextOf`, specs/Chains.antt): whole changes and whole groups, those that events and replies tell of |
-//! | `exactly_once` | over these lives, and each beginning of them, each session's ticket is in at most once, only above the first disk's last one, and exactly once where it is acknowledged; each life opens to the last tickets of what is in (`IsExactlyOnce` of `run_laws`) |
+//! | `exactly_once` | over these lives, and each beginning of them, each session's ticket is in at most once, only above the first disk's last one, and exactly once where it is acknowledged; each life opens to the last tickets of what is in (`IsExactlyOnce` of `event_laws`) |
 //! | `refused` | where the disk stands for anything, an opening is refused by `Device` or `Memory` alone |
 //! | `sound` | each life is sound (`IsSound`, specs/Sound.antt), on the very disk that the crash of the one before had left, up to the first life that couldn't open, which only read it |
 //!

@@ -2,7 +2,7 @@
 ghost use Rattle.std.specs.Prelude.{◌≤◌};
 
 use disk_trait::Plan;
-use event_runs::Event;
+use event_model::Event;
 
 /// What a life of a device is asked to do, from its opening to its crash.
 #[derive(Drop)]

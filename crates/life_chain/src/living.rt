@@ -2,7 +2,7 @@
 ghost use Rattle.std.specs.Prelude.{◌≡◌, replicate, IfOk, IfErr};
 ghost use Rattle.disk_trait.specs.Disk.{IsSameDevice};
 ghost use Rattle.checkpoint.specs.StoreWords.{state_of};
-ghost use Rattle.event_runs.specs.Machines.{fresh_session};
+ghost use Rattle.event_model.specs.Machines.{fresh_session};
 ghost use Rattle.life_chain.specs.Rooms.{IsRoomFor};
 ghost use Rattle.life_chain.specs.Lived.{IsLived, IsRefusedOpening};
 ghost use Rattle.life_chain.specs.Telling.{KeepsModel};
@@ -12,11 +12,11 @@ use crate::life::Life;
 use crate::report::LifeReport;
 use checkpoint::{OpenRefused, Store};
 use disk_trait::{CrashDisk, Disk};
-use event_runs::{Reply, Session};
+use event_laws::{acknowledged_law, history_law};
+use event_model::{Reply, Session};
 use graph_edits::Graph;
 use group_commit::Desk;
 use interleave::{World, fresh_sessions};
-use run_laws::{acknowledged_law, history_law};
 use std::alloc::{AllocError, Global};
 
 /// One life of a disk, whose replies have their room: the report of it, and the disk after its crash. Where the disk isn't opened, or
@@ -42,6 +42,7 @@ pub(crate) fn live<D: CrashDisk + Drop, C: Crash<D>>(
     let Ok((graph, sessions)) = parts_of(alloc, &store, life.sessions) else {
         return Err((OpenRefused::Memory, store.into_disk()));
     };
+    // What was opened is a moment of this life, and holds what was acknowledged before.
     history_law::<D>();
     acknowledged_law();
     let count = store.count();

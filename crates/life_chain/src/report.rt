@@ -1,6 +1,6 @@
 // What lives report.
 use checkpoint::OpenRefused;
-use event_runs::Reply;
+use event_model::Reply;
 use graph_edits::Graph;
 use interleave::Stored;
 use requests::SESSIONS;

@@ -4,7 +4,7 @@ ghost use Rattle.life_chain.specs.Rooms.{HaveRooms};
 
 use crate::life::Life;
 use crate::report::LifeReport;
-use event_runs::Reply;
+use event_model::Reply;
 use std::alloc::{AllocError, Global};
 
 /// Room for the replies of each life.

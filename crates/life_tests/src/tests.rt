@@ -2,7 +2,7 @@
 // in an opening, a roll, and runs of which an allocation is refused.
 use checkpoint::{DEVICE_LEN, OpenRefused};
 use disk_trait::{MemDisk, Plan};
-use event_runs::{Event, Reply};
+use event_model::{Event, Reply};
 use forwarders::Refused as RouteRefused;
 use generations::{Mark, Verdict};
 use graph_edits::{Change, Code, Graph, Op};

@@ -7,7 +7,7 @@ use Rattle.input_lines.specs.declared.line.NextLine.{NextLine}
 use Rattle.input_lines.specs.declared.line.NextLine.TheVariants.{Line, LongerLine, End}
 use Rattle.input_lines.proofs.LoopLemmas.{none_read, next_read, one_more, one_longer_more}
 use Rattle.live_lines.specs.declared.asked.Asked.{Asked}
-use Rattle.written_values.specs.declared.line.ScriptLine.{ScriptLine}
+use Rattle.value_syntax.specs.declared.line.ScriptLine.{ScriptLine}
 use Rattle.line_exchange.specs.Inputs.{Input, Bytes, Script}
 use Rattle.line_exchange.specs.Scripts.{line_asked}
 use Rattle.line_exchange.specs.Streams.{IsAskedAt, IsAskedBy}

@@ -5,7 +5,7 @@ use Rattle.command_output.specs.declared.fault.Fault.{Fault}
 use Rattle.command_output.specs.declared.fault.Fault.TheVariants as told
 use Rattle.line_exchange.specs.Begun.{Begins}
 use Rattle.line_exchange.specs.declared.answer_writer.AnswerWriter.{Ghosts}
-use Rattle.written_values.specs.declared.line.ScriptLine.{ScriptLine}
+use Rattle.value_syntax.specs.declared.line.ScriptLine.{ScriptLine}
 use Rattle.live_lines.specs.declared.answer.Answer.{Answer}
 use Rattle.live_lines.specs.Answers.{script_text}
 use Rattle.line_exchange.specs.declared.served.Served.{Served}

@@ -1,6 +1,6 @@
 -- What the lines of a service are.
 use Rattle.std.specs.Prelude.{ℕ, List, Option}
-use Rattle.written_values.specs.declared.line.ScriptLine.{ScriptLine}
+use Rattle.value_syntax.specs.declared.line.ScriptLine.{ScriptLine}
 
 -- those of an input of these bytes, where they are known, or those of a script
 pub data Input : Type 0 where

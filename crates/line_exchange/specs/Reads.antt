@@ -1,7 +1,7 @@
 -- How lines are read.
 use Rattle.std.specs.Prelude.{◌≡◌, ◌+◌, ◌++◌, ℕ, Bool, true, false, List, Option, Result, IfErr, IfOk, IfSome, length}
 use Rattle.input_lines.specs.Reading.{AreRead}
-use Rattle.written_values.specs.declared.line.ScriptLine.{ScriptLine}
+use Rattle.value_syntax.specs.declared.line.ScriptLine.{ScriptLine}
 use Rattle.line_exchange.specs.Inputs.{Input, Bytes, Script}
 use Rattle.line_exchange.specs.declared.line_fault.LineFault.{LineFault}
 use Rattle.line_exchange.specs.declared.line_fault.LineFault.TheVariants.{Failed}

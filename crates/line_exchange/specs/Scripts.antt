@@ -1,7 +1,7 @@
 -- What the lines of a script ask for, and what is told of a service's answers to them.
 use Rattle.std.specs.Prelude.{◌≡◌, ℕ, Bool, true, false, List, Option, Some, None, map, slice_get}
-use Rattle.written_values.specs.declared.line.ScriptLine.{ScriptLine}
-use Rattle.written_values.specs.declared.line.ScriptLine.TheVariants.{Edit, Route}
+use Rattle.value_syntax.specs.declared.line.ScriptLine.{ScriptLine}
+use Rattle.value_syntax.specs.declared.line.ScriptLine.TheVariants.{Edit, Route}
 use Rattle.live_lines.specs.declared.asked.Asked.{Asked}
 use Rattle.live_lines.specs.declared.asked.Asked.TheVariants as asks
 use Rattle.live_lines.specs.declared.answer.Answer.{Answer}

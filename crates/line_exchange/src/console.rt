@@ -3,7 +3,7 @@ ghost use Rattle.std.specs.Prelude.{◌≡◌};
 ghost use Rattle.line_exchange.specs.Ends.{TellsEnd, fault_of};
 
 use crate::answer_writer::AnswerWriter;
-use crate::exchange::Exchange;
+use crate::exchange::LineQueues;
 use crate::messages::Stream;
 use crate::printed::Printed;
 use crate::printing::print_all;
@@ -27,7 +27,7 @@ pub trait Console<J: Stream> {
     ghost finishes: { Self → Self → Option Fault → Served → Type 0 };
 
     /// Takes the answers in the order of their lines, until none comes any more. `B` names the board at which they were given.
-    fn print<B: BoardName, R: Wait>(self, rt: &R, exchange: &Exchange<J, B>) -> (Self, Printed)
+    fn print<B: BoardName, R: Wait>(self, rt: &R, exchange: &LineQueues<J, B>) -> (Self, Printed)
         ensures prints { prints self result.0 result.1 }
         ensures opening { result.1.tally.known.opening ≡ B.opening }
         ensures book { result.1.tally.lines.book ≡ J.book };
@@ -71,7 +71,7 @@ impl<'a, 'b, J: Stream, O: AnswerWriter, E: FaultWriter> Console<J> for Terminal
     ghost finishes = { λ c d f s. (d.out.ghost_name ≡ c.out.ghost_name) × (d.err.ghost_name ≡ c.err.ghost_name) × (d.out.now ≡ c.out.now)
         × TellsEnd E.contents E.has_failed c.err.now d.err.now s };
 
-    fn print<B: BoardName, R: Wait>(self, rt: &R, exchange: &Exchange<J, B>) -> (Self, Printed) {
+    fn print<B: BoardName, R: Wait>(self, rt: &R, exchange: &LineQueues<J, B>) -> (Self, Printed) {
         let Terminal { alloc, out, err } = self;
         let printed = print_all(rt, alloc, exchange, out);
         (Terminal { alloc, out, err }, printed)

@@ -17,7 +17,7 @@ pub const WINDOW: usize = 1_024;
 
 /// A mailbox for each editor, for each forwarder, for the waiter and for tables, and the answers. It begins with the board that `B` names.
 #[derive(Drop)]
-pub struct Exchange<J: Stream, B: BoardName> {
+pub struct LineQueues<J: Stream, B: BoardName> {
     pub sessions: Vec<Mailbox<Ask<J>>>,
     pub forwarders: Vec<Mailbox<Ask<J>>>,
     pub waiter: Mailbox<Ask<J>>,
@@ -47,7 +47,7 @@ fn mailboxes<J: Stream>(alloc: Global, count: u8) -> Result<Vec<Mailbox<Ask<J>>>
     Ok(all)
 }
 
-impl<J: Stream, B: BoardName> Exchange<J, B> {
+impl<J: Stream, B: BoardName> LineQueues<J, B> {
     /// One of so many editors and forwarders, empty.
     pub fn new(
         alloc: Global,
@@ -56,7 +56,7 @@ impl<J: Stream, B: BoardName> Exchange<J, B> {
         known: History,
         starts: &[u64; SESSIONS],
         blank: BlankBook,
-    ) -> Result<Exchange<J, B>, AllocError>
+    ) -> Result<LineQueues<J, B>, AllocError>
         requires known { known.opening ≡ B.opening }
         requires starts { starts.now ≡ B.opening.starts }
         requires blank { blank.book ≡ J.book }
@@ -64,7 +64,7 @@ impl<J: Stream, B: BoardName> Exchange<J, B> {
         let sessions = mailboxes(alloc, editors)?;
         let forwarders = mailboxes(alloc, forwarders)?;
         let answers = ReorderBuffer::new(alloc, WINDOW)?;
-        Ok(Exchange {
+        Ok(LineQueues {
             sessions,
             forwarders,
             waiter: Mailbox::new(alloc),

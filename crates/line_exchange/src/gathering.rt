@@ -8,7 +8,7 @@ ghost use Rattle.line_exchange.specs.Gathers.{HasText, PrintsAtEnd};
 
 use crate::answer_writer::{AnswerWriter, print_text};
 use crate::console::Console;
-use crate::exchange::Exchange;
+use crate::exchange::LineQueues;
 use crate::line_fault::LineFault;
 use crate::messages::{Answered, Stream};
 use crate::printed::Printed;
@@ -41,7 +41,7 @@ fn push_line(alloc: Global, text: &mut String, answer: &Answer) -> Result<(), Al
 // more.
 fn next<J: Stream, B: BoardName, R: Wait>(
     rt: &R,
-    exchange: &Exchange<J, B>,
+    exchange: &LineQueues<J, B>,
     place: u64,
 ) -> Option<Answered<J, B>>
     ensures { IfSome result (λ answered. answered.place ≡ place) }
@@ -58,7 +58,7 @@ fn next<J: Stream, B: BoardName, R: Wait>(
 fn gather_each<J: Stream, B: BoardName, R: Wait>(
     rt: &R,
     alloc: Global,
-    exchange: &Exchange<J, B>,
+    exchange: &LineQueues<J, B>,
     text: &mut String,
 ) -> Printed
     requires { string_bytes text.old ≡ [] }
@@ -99,7 +99,7 @@ fn gather_each<J: Stream, B: BoardName, R: Wait>(
 fn gather_all<J: Stream, B: BoardName, R: Wait>(
     rt: &R,
     alloc: Global,
-    exchange: &Exchange<J, B>,
+    exchange: &LineQueues<J, B>,
 ) -> (Printed, String)
     ensures text { result.0.end ≡ None
         → HasText result.0.tally J.input J.editors (string_bytes result.1) }
@@ -144,7 +144,7 @@ impl<'a, J: Stream, O: AnswerWriter> Console<J> for Gatherer<'a, O> {
         × PrintsAtEnd O.AnswerWriter (string_bytes c.text) c.out.now d.out.now f s
         × IfSome (fault_of s) (λ fault. fault ≢ Output → d.out.now ≡ c.out.now) };
 
-    fn print<B: BoardName, R: Wait>(self, rt: &R, exchange: &Exchange<J, B>) -> (Self, Printed) {
+    fn print<B: BoardName, R: Wait>(self, rt: &R, exchange: &LineQueues<J, B>) -> (Self, Printed) {
         let Gatherer {
             alloc,
             text: _,

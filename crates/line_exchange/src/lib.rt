@@ -1,7 +1,7 @@
 //! The lines of a service and their answers, handed from thread to thread: who reads, who prints, and where all find what is theirs.
 //!
 //! A reader takes lines from a [`LineSource`], one of an input or of a script, and puts what each asks for ([`Ask`]) where the one finds
-//! it that answers it: an [`Exchange`] has a mailbox for each editor, for each forwarder, for the waiter and for tables. The answers
+//! it that answers it: an [`LineQueues`] has a mailbox for each editor, for each forwarder, for the waiter and for tables. The answers
 //! ([`Answered`]) come back in any order, and whoever prints takes them in the order of their lines: a [`Terminal`] prints each as soon
 //! as it and all before it are there, a [`Gatherer`] prints all at the end. Both are a [`Console`], which also tells how the service
 //! ended ([`Served`]). At most 1,024 lines have been read and not answered.
@@ -22,7 +22,7 @@
 //! Who answers the lines is another crate's affair: nothing here knows of editors, forwarders or a committer.
 //!
 //! ```text
-//! let exchange = Exchange::<J, B>::new(alloc, editors, forwarders, known, &starts, BlankBook::new())?;
+//! let exchange = LineQueues::<J, B>::new(alloc, editors, forwarders, known, &starts, BlankBook::new())?;
 //! let lines = read_lines(rt, &exchange, InputSource::new(alloc, editors, input))?;      // in a thread
 //! let (terminal, printed) = Terminal { alloc, out, err }.print(rt, &exchange);          // in another one
 //! ```
@@ -45,7 +45,7 @@ mod tally;
 
 pub use answer_writer::{AnswerWriter, WatchedOutput};
 pub use console::{Console, Terminal, told};
-pub use exchange::Exchange;
+pub use exchange::LineQueues;
 pub use gathering::Gatherer;
 pub use input_source::InputSource;
 pub use line_fault::LineFault;

@@ -8,7 +8,7 @@ ghost use Rattle.live_lines.specs.Answers.{answer_text};
 ghost use Rattle.line_exchange.specs.Prints.{PrintsSo};
 
 use crate::answer_writer::AnswerWriter;
-use crate::exchange::Exchange;
+use crate::exchange::LineQueues;
 use crate::line_fault::LineFault;
 use crate::messages::{Answered, Stream};
 use crate::printed::Printed;
@@ -48,7 +48,7 @@ fn print_one<O: AnswerWriter>(alloc: Global, answer: &Answer, out: &mut O) -> Re
 // The answer to a line. While it isn't there, what was printed is flushed. None where no answer comes any more.
 fn next<J: Stream, B: BoardName, O: AnswerWriter, R: Wait>(
     rt: &R,
-    exchange: &Exchange<J, B>,
+    exchange: &LineQueues<J, B>,
     place: u64,
     out: &mut O,
 ) -> io::Result<Option<Answered<J, B>>>
@@ -70,7 +70,7 @@ fn next<J: Stream, B: BoardName, O: AnswerWriter, R: Wait>(
 fn print_each<J: Stream, B: BoardName, O: AnswerWriter, R: Wait>(
     rt: &R,
     alloc: Global,
-    exchange: &Exchange<J, B>,
+    exchange: &LineQueues<J, B>,
     out: &mut O,
 ) -> Printed
     ensures printed { PrintsSo O.AnswerWriter J.input J.editors out.old out.new result }
@@ -121,7 +121,7 @@ fn print_each<J: Stream, B: BoardName, O: AnswerWriter, R: Wait>(
 pub fn print_all<J: Stream, B: BoardName, O: AnswerWriter, R: Wait>(
     rt: &R,
     alloc: Global,
-    exchange: &Exchange<J, B>,
+    exchange: &LineQueues<J, B>,
     out: &mut O,
 ) -> Printed
     ensures printed { PrintsSo O.AnswerWriter J.input J.editors out.old out.new result }

@@ -4,7 +4,7 @@ ghost use Rattle.generations.specs.Beginnings.{Beginning};
 ghost use Rattle.line_exchange.specs.OneList.{AnswersBy};
 ghost use Rattle.line_exchange.specs.Reads.{IsReadEnd};
 
-use crate::exchange::Exchange;
+use crate::exchange::LineQueues;
 use crate::line_fault::LineFault;
 use crate::line_source::LineSource;
 use crate::messages::{Answered, Ask, Stream};
@@ -74,7 +74,7 @@ fn answered<J: Stream, B: BoardName>(ask: Ask<J>, known: History) -> Option<Answ
 // Hands a line to whoever answers it: those that are forwarders' in turn. What goes by tables is behind the last line that waits for them.
 fn deal<J: Stream, B: BoardName, R: Wait>(
     rt: &R,
-    exchange: &Exchange<J, B>,
+    exchange: &LineQueues<J, B>,
     ask: Ask<J>,
     turn: &mut usize,
     behind: &mut u64,
@@ -126,7 +126,7 @@ fn next_turn(turn: usize, count: usize) -> usize {
 // taken any more.
 fn read_each<J: Stream, B: BoardName, L: LineSource<J> + Drop, R: Wait>(
     rt: &R,
-    exchange: &Exchange<J, B>,
+    exchange: &LineQueues<J, B>,
     source: L,
 ) -> Result<Option<u64>, LineFault>
     requires { L.has_given source 0 }
@@ -157,7 +157,7 @@ fn read_each<J: Stream, B: BoardName, L: LineSource<J> + Drop, R: Wait>(
 /// Then no more lines come. How many there were, or none where no answers were taken any more.
 pub fn read_lines<J: Stream, B: BoardName, L: LineSource<J> + Drop, R: Wait>(
     rt: &R,
-    exchange: &Exchange<J, B>,
+    exchange: &LineQueues<J, B>,
     source: L,
 ) -> Result<Option<u64>, LineFault>
     requires { L.has_given source 0 }

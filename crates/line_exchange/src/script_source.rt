@@ -8,7 +8,7 @@ use crate::messages::{Ask, Stream};
 use live_lines::Asked;
 use std::marker::PhantomData;
 use std::vec::IntoIter;
-use written_values::ScriptLine;
+use value_syntax::ScriptLine;
 
 /// The lines of a script.
 #[derive(Drop)]

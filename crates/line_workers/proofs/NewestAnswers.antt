@@ -3,7 +3,7 @@ use Rattle.std.proofs.Common.{Option, Some, None}
 use Rattle.std.specs.Prelude.{IfSome}
 use Rattle.generations.specs.Beginnings.{Beginning, GoesOn}
 use Rattle.generations.proofs.Sharing.{goes_self}
-use Rattle.service_workers.proofs.NewestLooks.{newest_wider, was_wider}
+use Rattle.service_actors.proofs.NewestLooks.{newest_wider, was_wider}
 use Rattle.live_lines.specs.declared.asked.Asked.{Asked}
 use Rattle.live_lines.specs.declared.asked.Asked.TheVariants as asks
 use Rattle.live_lines.specs.declared.answer.Answer.{Answer}

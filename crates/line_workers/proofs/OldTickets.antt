@@ -19,10 +19,10 @@ use Rattle.intake.specs.declared.outcome.SubmitRefused.TheVariants.{Busy, Alread
 use Rattle.intake.specs.Editors.{Editing}
 use Rattle.intake.specs.Outcomes.{is_open, outcome_on}
 use Rattle.intake.specs.Turns.{last_asked}
-use Rattle.service_workers.specs.Edited.{IsLastMark}
-use Rattle.service_workers.specs.EditedAsAsked.{IsEditEnd, IsIn, IsOld, asked_ticket}
-use Rattle.service_workers.specs.declared.session_editor.EditEnd.{EditEnd}
-use Rattle.service_workers.specs.declared.session_editor.EditEnd.TheVariants as ends
+use Rattle.service_actors.specs.Edited.{IsLastMark}
+use Rattle.service_actors.specs.EditedAsAsked.{IsEditEnd, IsIn, IsOld, asked_ticket}
+use Rattle.service_actors.specs.declared.session_editor.EditEnd.{EditEnd}
+use Rattle.service_actors.specs.declared.session_editor.EditEnd.TheVariants as ends
 use Rattle.live_lines.specs.declared.asked.Asked.TheVariants as asks
 use Rattle.live_lines.specs.declared.answer.Answer.{Answer}
 use Rattle.live_lines.specs.declared.answer.Answer.TheVariants as answers

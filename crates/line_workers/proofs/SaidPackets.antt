@@ -19,7 +19,7 @@ use Rattle.forwarders.specs.Arrivals.{IsPublished}
 use Rattle.forwarders.proofs.Published.{published_there}
 use Rattle.packet_ways.specs.declared.carried.Carried.{Carried}
 use Rattle.packet_ways.specs.Carried.{HoldsOf, IsCarried}
-use Rattle.service_workers.proofs.PacketsOnWay.{address_is, address_none, no_node_by, ok_by}
+use Rattle.service_actors.proofs.PacketsOnWay.{address_is, address_none, no_node_by, ok_by}
 use Rattle.live_lines.specs.declared.asked.Asked.TheVariants as asks
 use Rattle.live_lines.specs.Answers.{generation_gone}
 use Rattle.live_lines.specs.declared.answer.Answer.TheVariants.{Way, NoNode, Told, Sent, Moved, NotCarried}

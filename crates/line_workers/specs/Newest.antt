@@ -1,6 +1,6 @@
 -- By which generation a forwarder answers.
 use Rattle.generations.specs.Beginnings.{Beginning}
-use Rattle.service_workers.specs.Forwarded.{IsByNewest, WasNewest}
+use Rattle.service_actors.specs.Forwarded.{IsByNewest, WasNewest}
 use Rattle.live_lines.specs.declared.asked.Asked.{Asked}
 use Rattle.live_lines.specs.declared.asked.Asked.TheVariants as asks
 use Rattle.live_lines.specs.declared.answer.Answer.{Answer}

@@ -6,7 +6,7 @@ use Rattle.put_lines.specs.declared.put_line.PutLine.{PutLine}
 use Rattle.put_lines.specs.Lines.{AddsLine, lines_of}
 use Rattle.intake.specs.Editors.{Editing}
 use Rattle.intake.specs.Ends.{Taking}
-use Rattle.service_workers.specs.Edited.{IsSameEditor}
+use Rattle.service_actors.specs.Edited.{IsSameEditor}
 use Rattle.live_lines.specs.declared.asked.Asked.{Asked}
 use Rattle.live_lines.specs.declared.asked.Asked.TheVariants.{Edit}
 use Rattle.live_lines.specs.declared.answer.Answer.{Answer}

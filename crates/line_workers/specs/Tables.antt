@@ -9,8 +9,8 @@ use Rattle.generations.specs.Boards.{latest_of, scheme_of}
 use Rattle.forwarders.specs.declared.refused.Refused.TheVariants as refused
 use Rattle.forwarders.specs.Answers.{Shelf}
 use Rattle.forwarders.specs.Arrivals.{IsPublished}
-use Rattle.service_workers.specs.declared.stop_cause.StopCause.{StopCause}
-use Rattle.service_workers.specs.declared.stop_cause.StopCause.TheVariants as cause
+use Rattle.service_actors.specs.declared.stop_cause.StopCause.{StopCause}
+use Rattle.service_actors.specs.declared.stop_cause.StopCause.TheVariants as cause
 use Rattle.table_files.specs.declared.totals.Totals.{Totals}
 use Rattle.table_files.specs.Files.{HasPut, Put, put_of}
 use Rattle.table_files.specs.Tables.{IsTotalOf, file_of, files_of}

@@ -1,7 +1,7 @@
 // An editor's thread.
 ghost use Rattle.std.specs.Prelude.{◌≡◌, ◌≢◌, [], IfSome, length};
 ghost use Rattle.put_lines.specs.Lines.{lines_of};
-ghost use Rattle.service_workers.specs.Edited.{IsSameEditor};
+ghost use Rattle.service_actors.specs.Edited.{IsSameEditor};
 ghost use Rattle.live_lines.specs.Answers.{Fits, generation_gone};
 ghost use Rattle.line_exchange.specs.OneList.{IsSaidBy};
 ghost use Rattle.line_workers.specs.Submits.{ComesBack, HasPutFor, NotesAnswer};
@@ -13,7 +13,7 @@ use line_exchange::{Answered, Ask, Noted, NotedLine, Stream};
 use live_lines::{Answer, Asked};
 use packet_ways::BoardName;
 use put_lines::PutLine;
-use service_workers::{EditEnd, SessionEditor, StopCause};
+use service_actors::{EditEnd, SessionEditor, StopCause};
 use std::marker::PhantomData;
 use std::sync::Wait;
 

@@ -11,7 +11,7 @@ use line_exchange::{Answered, Ask, Stream};
 use live_lines::{Answer, Asked};
 use packet_ways::{BoardName, Carried, Trip};
 use schemes::{Address, Packet};
-use service_workers::{ForwarderOf, Gate, StopCause};
+use service_actors::{BoardForwarder, Gate, StopCause};
 use std::marker::PhantomData;
 use std::sync::Wait;
 
@@ -62,7 +62,7 @@ fn leads<J: Stream, B: BoardName, R: Wait>(
 fn route<J: Stream, B: BoardName, G: Gate, R: Wait>(
     here: &Workplace<J, B, R>,
     gate: &G,
-    forwarder: &mut ForwarderOf<B>,
+    forwarder: &mut BoardForwarder<B>,
     from: u16,
     to: u16,
 ) -> Option<Answer>
@@ -81,7 +81,7 @@ fn route<J: Stream, B: BoardName, G: Gate, R: Wait>(
 // The answer to who asks for an address. Without one all stop.
 fn address<J: Stream, B: BoardName, R: Wait>(
     here: &Workplace<J, B, R>,
-    forwarder: &mut ForwarderOf<B>,
+    forwarder: &mut BoardForwarder<B>,
     node: u16,
 ) -> Option<Answer>
     ensures kept { GoesOn forwarder.old.forwarder forwarder.new.forwarder }
@@ -101,7 +101,7 @@ fn address<J: Stream, B: BoardName, R: Wait>(
 // The answer to a launch. Without one all stop.
 fn launch<J: Stream, B: BoardName, R: Wait>(
     here: &Workplace<J, B, R>,
-    forwarder: &mut ForwarderOf<B>,
+    forwarder: &mut BoardForwarder<B>,
     from: u16,
     to: &Address,
 ) -> Option<Answer>
@@ -118,7 +118,7 @@ fn launch<J: Stream, B: BoardName, R: Wait>(
 fn hop<J: Stream, B: BoardName, G: Gate, R: Wait>(
     here: &Workplace<J, B, R>,
     gate: &G,
-    forwarder: &mut ForwarderOf<B>,
+    forwarder: &mut BoardForwarder<B>,
     at: u16,
     packet: &Packet,
 ) -> Option<Answer>
@@ -138,7 +138,7 @@ fn hop<J: Stream, B: BoardName, G: Gate, R: Wait>(
 fn answer_of<J: Stream, B: BoardName, G: Gate, R: Wait>(
     here: &Workplace<J, B, R>,
     gate: &G,
-    forwarder: &mut ForwarderOf<B>,
+    forwarder: &mut BoardForwarder<B>,
     asked: &Asked,
 ) -> Option<Answer>
     ensures kept { GoesOn forwarder.old.forwarder forwarder.new.forwarder }
@@ -172,7 +172,7 @@ fn await_waited<J: Stream, B: BoardName, R: Wait>(here: &Workplace<J, B, R>, beh
 fn answer_at<J: Stream, B: BoardName, G: Gate, R: Wait>(
     here: &Workplace<J, B, R>,
     gate: &G,
-    forwarder: &mut ForwarderOf<B>,
+    forwarder: &mut BoardForwarder<B>,
     place: u64,
     behind: u64,
     asked: &Asked,
@@ -199,7 +199,7 @@ fn answer_at<J: Stream, B: BoardName, G: Gate, R: Wait>(
 fn answered<J: Stream, B: BoardName, G: Gate, R: Wait>(
     here: &Workplace<J, B, R>,
     gate: &G,
-    forwarder: &mut ForwarderOf<B>,
+    forwarder: &mut BoardForwarder<B>,
     ask: Ask<J>,
 ) -> Option<Answered<J, B>>
     // Where it tells a way or an address, that is by the newest generation: a look of this call saw no newer one, and all that the
@@ -227,7 +227,7 @@ fn answered<J: Stream, B: BoardName, G: Gate, R: Wait>(
 pub fn forward_lines<J: Stream, B: BoardName, G: Gate, R: Wait>(
     here: &Workplace<J, B, R>,
     gate: &G,
-    forwarder: ForwarderOf<B>,
+    forwarder: BoardForwarder<B>,
     place: usize,
 ) {
     let Some(mailbox) = here.exchange.forwarders.get(place) else {

@@ -15,7 +15,7 @@ use line_exchange::{Answered, Ask, Stream};
 use live_lines::{Answer, Asked};
 use packet_ways::BoardName;
 use schemes::Scheme;
-use service_workers::StopCause;
+use service_actors::StopCause;
 use std::alloc::Global;
 use std::marker::PhantomData;
 use std::sync::Wait;

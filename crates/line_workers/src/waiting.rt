@@ -8,7 +8,7 @@ use generations::History;
 use line_exchange::{Answered, Ask, Stream};
 use live_lines::{Answer, Asked, CommitFigures, KINDS, Metrics};
 use packet_ways::BoardName;
-use service_workers::{Backed, ServiceState, StopCause, TimeSpan, Timings};
+use service_actors::{Backed, ServiceState, StopCause, TimeSpan, Timings};
 use std::alloc::{AllocError, Global};
 use std::marker::PhantomData;
 use std::sync::Wait;

@@ -1,7 +1,7 @@
 // Where a worker stands.
-use line_exchange::{Exchange, Stream};
+use line_exchange::{LineQueues, Stream};
 use packet_ways::BoardName;
-use service_workers::Coordinator;
+use service_actors::Coordinator;
 use std::alloc::Global;
 use std::sync::Wait;
 
@@ -11,7 +11,7 @@ pub struct Workplace<'a, J: Stream, B: BoardName, R> {
     pub rt: &'a R,
     pub alloc: Global,
     pub coordinator: &'a Coordinator<B>,
-    pub exchange: &'a Exchange<J, B>,
+    pub exchange: &'a LineQueues<J, B>,
 }
 
 impl<'a, J: Stream, B: BoardName, R: Wait> Workplace<'a, J, B, R> {

@@ -10,9 +10,9 @@ use Rattle.graph_edits.specs.declared.edits.Op.{Op}
 use Rattle.live_lines.specs.declared.asked.Asked.{Asked}
 use Rattle.live_lines.specs.declared.asked.Asked.TheVariants.{Edit, Resume, Route, Address, Tables, Backup, NoSession, NotOps, NotUnderstood}
 use Rattle.live_lines.specs.declared.asked.Named.TheVariants.{Unedited}
-use Rattle.written_values.specs.OpText.{Fits, op_text}
-use Rattle.written_values.specs.Reading.{texts_of}
-use Rattle.written_values.specs.Scripts.{IsChange, words_of}
+use Rattle.value_syntax.specs.OpText.{Fits, op_text}
+use Rattle.value_syntax.specs.Reading.{texts_of}
+use Rattle.value_syntax.specs.Scripts.{IsChange, words_of}
 use Rattle.live_lines.specs.declared.words.Word.{Word}
 use Rattle.live_lines.specs.declared.words.Word.TheVariants as word
 use Rattle.live_lines.specs.Lines.{AddressAsks, AsksBehind, AsksJust, EditAsks, IsAskedIn, IsFolder, IsNamed, IsOp, IsTicket, LacksOps, NoSessionAsks, NodeAsks, NotOpsAsks, ResumeAsks, RouteAsks, TablesAsks, BackupAsks, WordsAsk, edit_words, ticket_word, word_text}

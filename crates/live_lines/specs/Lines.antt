@@ -11,8 +11,8 @@ use Rattle.packet_bytes.specs.Spelling.{SpellsAddress, SpellsPacket}
 use Rattle.packet_bytes.specs.declared.wire.WireRefused.{WireRefused}
 use Rattle.packet_bytes.specs.declared.wire.WireRefused.TheVariants.{BadLength}
 use Rattle.packet_bytes.specs.Digits.{AreDigitsOf}
-use Rattle.written_values.specs.OpText.{Fits, op_text}
-use Rattle.written_values.specs.Scripts.{IsChange, words_of}
+use Rattle.value_syntax.specs.OpText.{Fits, op_text}
+use Rattle.value_syntax.specs.Scripts.{IsChange, words_of}
 use Rattle.live_lines.specs.declared.words.Word.{Word}
 use Rattle.live_lines.specs.declared.words.Word.TheVariants as word
 use Rattle.live_lines.specs.declared.asked.Named.{Named}

@@ -1,9 +1,9 @@
 // What a line asks for.
 ghost use Rattle.std.specs.Prelude.{◌≡◌, ◌≢◌, ◌↔◌, ◌∷◌, ◌<◌, ◌^◌, [], ℕ, List, All, None, Option, IfOk, IsTrue, decimal, map};
 ghost use Rattle.graph_edits.specs.declared.edits.Op.{Op};
-ghost use Rattle.written_values.specs.OpText.{op_text};
-ghost use Rattle.written_values.specs.Scripts.{IsChange};
-ghost use Rattle.written_values.specs.Reading.{IfRead, Reads, ReadsPair, texts_of};
+ghost use Rattle.value_syntax.specs.OpText.{op_text};
+ghost use Rattle.value_syntax.specs.Scripts.{IsChange};
+ghost use Rattle.value_syntax.specs.Reading.{IfRead, Reads, ReadsPair, texts_of};
 ghost use Rattle.live_lines.specs.declared.asked.Asked.{Asked};
 ghost use Rattle.live_lines.specs.declared.words.Word.{Word};
 ghost use Rattle.live_lines.specs.Lines.{AddressAsks, AsksBehind, AsksJust, BackupAsks, HopAsks, IsAskedIn, IsNamed, IsOp, IsTicket, LacksOps, LaunchAsks, NodeAsks, RouteAsks, TablesAsks, WordsAsk, ticket_word};
@@ -15,7 +15,7 @@ use packet_bytes::WireRefused;
 use requests::WORN_LIMIT;
 use schemes::{Address, Packet};
 use std::alloc::{AllocError, Global};
-use written_values::{change_in, node, number, op};
+use value_syntax::{change_in, node, number, op};
 
 /// What a line asks for.
 #[derive(Debug, PartialEq, Eq, Drop)]

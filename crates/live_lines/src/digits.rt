@@ -4,7 +4,7 @@ ghost use Rattle.hex.specs.Hex.{is_hex_digit};
 ghost use Rattle.live_lines.specs.Lines.{AreHex, AsksJust, HopAsks, LaunchAsks};
 
 use crate::asked::Asked;
-use packet_bytes::{ADDRESS_SIZE, NoBytes, PACKET_SIZE, Wire, WireRefused, bytes_in};
+use packet_bytes::{ADDRESS_SIZE, HexError, PACKET_SIZE, Wire, WireRefused, bytes_in};
 use schemes::{Address, Packet};
 
 /// Whether a byte is a hex digit, in either case.
@@ -30,8 +30,8 @@ pub(crate) fn launch_of(from: u16, digits: &[u8]) -> Asked
     }
     let bytes = match bytes_in::<ADDRESS_SIZE>(digits) {
         Ok(bytes) => bytes,
-        Err(NoBytes::OtherLength) => return Asked::Unread(WireRefused::BadLength),
-        Err(NoBytes::NoDigits) => return Asked::NotUnderstood,
+        Err(HexError::OtherLength) => return Asked::Unread(WireRefused::BadLength),
+        Err(HexError::NoDigits) => return Asked::NotUnderstood,
     };
     match Address::from_bytes(&bytes) {
         Ok(to) => Asked::Launch { from, to },
@@ -48,8 +48,8 @@ pub(crate) fn hop_of(at: u16, digits: &[u8]) -> Asked
     }
     let bytes = match bytes_in::<PACKET_SIZE>(digits) {
         Ok(bytes) => bytes,
-        Err(NoBytes::OtherLength) => return Asked::Unread(WireRefused::BadLength),
-        Err(NoBytes::NoDigits) => return Asked::NotUnderstood,
+        Err(HexError::OtherLength) => return Asked::Unread(WireRefused::BadLength),
+        Err(HexError::NoDigits) => return Asked::NotUnderstood,
     };
     match Packet::from_bytes(&bytes) {
         Ok(packet) => Asked::Hop { at, packet },

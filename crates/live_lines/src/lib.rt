@@ -20,7 +20,7 @@
 //! | `edit S T ..`, where a word behind T is no OP | `op not understood` |
 //! | anything else | `not understood` |
 //!
-//! Exactly one blank stands between two words. Numbers and OPs are written as in a script (`written_values`). A session `S` is below
+//! Exactly one blank stands between two words. Numbers and OPs are written as in a script (`value_syntax`). A session `S` is below
 //! the number of editors; a ticket `T` is a number from 1 on, or `-` for the next one; there are 1 to 16 OPs. A node is any number of
 //! 16 bits: whether the device has it is asked later. An `ADDRESS` and a `PACKET` are hex digits, in either case. A `FOLDER` or a `FILE` is any text of
 //! a byte or more, each above a blank. A refusal is

@@ -2,8 +2,8 @@
 ghost use Rattle.std.specs.Prelude.{◌≡◌, ◌↔◌, IfOk, IfSome, IsTrue, Some};
 ghost use Rattle.live_lines.specs.declared.words.Word.{Word};
 ghost use Rattle.live_lines.specs.Lines.{IsFolder, word_text};
-ghost use Rattle.written_values.specs.Reading.{texts_of};
-ghost use Rattle.written_values.specs.Scripts.{words_of};
+ghost use Rattle.value_syntax.specs.Reading.{texts_of};
+ghost use Rattle.value_syntax.specs.Scripts.{words_of};
 
 use std::alloc::{AllocError, Global};
 

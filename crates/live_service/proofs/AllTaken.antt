@@ -18,15 +18,15 @@ use Rattle.group_commit.proofs.SettlingLemmas.{one_mark_each}
 use Rattle.generations.specs.declared.posting.Mark.{Mark}
 use Rattle.generations.specs.declared.posting.Notice.{Notice}
 use Rattle.generations.specs.Notices.{marks_in, marks_of, told_to}
-use Rattle.settled_lists.specs.declared.builds.Builds.{Builds}
-use Rattle.settled_lists.specs.Posted.{ArePosted}
+use Rattle.request_lists.specs.declared.builds.Builds.{Builds}
+use Rattle.request_lists.specs.Posted.{ArePosted}
 use Rattle.intake.specs.Editors.{Editing}
 use Rattle.intake.specs.Turns.{AreOfEditors, last_or_start, of}
 use Rattle.committer.specs.declared.committer.Committer.{Committer}
 use Rattle.committer.specs.CommitterWords.{got_of, taker_of}
-use Rattle.service_threads.specs.Kept.{KeepsQueue}
-use Rattle.service_workers.specs.AtRest.{IsAtRest, RisesFrom}
-use Rattle.service_workers.proofs.Resting.{start_more}
+use Rattle.committer_thread.specs.Kept.{KeepsQueue}
+use Rattle.service_actors.specs.AtRest.{IsAtRest, RisesFrom}
+use Rattle.service_actors.proofs.Resting.{start_more}
 use Rattle.line_exchange.specs.Inputs.{Input}
 use Rattle.live_service.specs.Noting.{AreAllNoted, AreJoined}
 use Rattle.live_service.specs.declared.ending.Joined.{Joined}

@@ -6,19 +6,19 @@ use Rattle.disk_trait.specs.declared.disk.Disk.{Ghosts as Disks}
 use Rattle.disk_trait.specs.Disk.{DiskView, IsSameDevice}
 use Rattle.checkpoint.specs.StoreWords.{state_of, view_of, is_down}
 use Rattle.checkpoint.specs.declared.store.Store.{Store}
-use Rattle.written_values.specs.declared.words.LandmarkWords.{LandmarkWords}
+use Rattle.value_syntax.specs.declared.words.LandmarkWords.{LandmarkWords}
 use Rattle.command_output.specs.declared.fault.Fault.{Fault}
 use Rattle.command_output.specs.declared.fault.Fault.TheVariants as told
 use Rattle.line_exchange.specs.Begun.{PrintsUnless}
 use Rattle.line_exchange.specs.declared.answer_writer.AnswerWriter.{Ghosts}
-use Rattle.service_threads.specs.Kept.{HasFailed, HasSettledSome, IsServedDisk}
-use Rattle.service_threads.proofs.Settling.{some_settled}
+use Rattle.committer_thread.specs.Kept.{HasFailed, HasSettledSome, IsServedDisk}
+use Rattle.committer_thread.proofs.Settling.{some_settled}
 use Rattle.device_commands.specs.Openings.{TellsOf}
 use Rattle.live_service.specs.ServeEnds.{IsLater, IsOpeningFault, IsServeEnd, IsServeFault, told_fault}
 use Rattle.line_exchange.specs.declared.served.Served.{Served}
 use Rattle.line_exchange.specs.declared.served.Served.TheVariants as served
-use Rattle.service_workers.specs.declared.stop_cause.StopCause.{StopCause}
-use Rattle.service_workers.specs.declared.stop_cause.StopCause.TheVariants as cause
+use Rattle.service_actors.specs.declared.stop_cause.StopCause.{StopCause}
+use Rattle.service_actors.specs.declared.stop_cause.StopCause.TheVariants as cause
 use Rattle.generations.specs.Beginnings.{Opening}
 use Rattle.logbook.specs.Pages.{Book}
 use Rattle.live_service.specs.declared.ending.Ending.{Ending}

@@ -3,6 +3,6 @@ pub mod AllTaken
 pub mod Backs
 pub mod Ended
 pub mod OneListed
-pub mod Seats
+pub mod Actors
 pub mod Sending
 pub mod Telling

@@ -23,18 +23,18 @@ use Rattle.committer.specs.declared.committer.Committer.{Committer}
 use Rattle.committer.specs.CommitterWords.{store_of, got_of, posts_of}
 use Rattle.committer.specs.Listed.{IsListedFrom}
 use Rattle.group_commit.specs.Settling.{settle}
-use Rattle.settled_lists.specs.declared.builds.Builds.{Builds}
-use Rattle.settled_lists.specs.Posted.{ArePosted}
+use Rattle.request_lists.specs.declared.builds.Builds.{Builds}
+use Rattle.request_lists.specs.Posted.{ArePosted}
 use Rattle.intake.specs.Turns.{of}
-use Rattle.service_workers.specs.declared.stop_cause.StopCause.{StopCause}
+use Rattle.service_actors.specs.declared.stop_cause.StopCause.{StopCause}
 use Rattle.packet_ways.specs.Carried.{AreNamed}
 use Rattle.packet_ways.specs.Standing.{IsNewest}
 use Rattle.packet_ways.proofs.Newest.{published_on}
 use Rattle.generations.proofs.Lawfulness.{lawful_first}
 use Rattle.generations.proofs.Sharing.{goes_self, goes_trans}
-use Rattle.service_threads.specs.Pace.{IsUpToDate}
-use Rattle.service_threads.specs.Kept.{HasSettled, IsLeftBy, IsOnCourse, IsServedDisk, StandsForBeginning}
-use Rattle.service_threads.proofs.Settling.{on_course_posted, read_leaves, served_leaves, served_same}
+use Rattle.committer_thread.specs.Pace.{IsUpToDate}
+use Rattle.committer_thread.specs.Kept.{HasSettled, IsLeftBy, IsOnCourse, IsServedDisk, StandsForBeginning}
+use Rattle.committer_thread.proofs.Settling.{on_course_posted, read_leaves, served_leaves, served_same}
 use Rattle.live_lines.specs.declared.answer.Answer.{Answer}
 use Rattle.line_exchange.specs.Inputs.{Input}
 use Rattle.line_exchange.specs.OneList.{AreAnswersIn, AreGone, AreSaid}

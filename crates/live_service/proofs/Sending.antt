@@ -8,7 +8,7 @@ use Rattle.requests.specs.contracts.request.Request as request
 use Rattle.journal.specs.contracts.journal.Journal as journal
 use Rattle.journal.specs.contracts.request_entry.RequestEntry.TheImpl as entry
 use Rattle.checkpoint.specs.contracts.store.Store as store
-use Rattle.service_workers.specs.contracts.word_source.WordSource as source
+use Rattle.service_actors.specs.contracts.word_source.WordSource as source
 use Rattle.live_service.specs.contracts.opened.EngineConfig as config
 
 graph_send : IsSend graph.the_row

@@ -8,13 +8,13 @@ use Rattle.line_exchange.specs.Begun.{PrintsUnless}
 use Rattle.line_exchange.specs.Reads.{AreOfInput}
 use Rattle.line_exchange.specs.declared.answer_writer.AnswerWriter.{Ghosts}
 use Rattle.checkpoint.specs.declared.store.Store.{Store}
-use Rattle.written_values.specs.declared.line.ScriptLine.{ScriptLine}
+use Rattle.value_syntax.specs.declared.line.ScriptLine.{ScriptLine}
 use Rattle.line_exchange.specs.Gathers.{BreaksOff, IsServed}
 use Rattle.line_exchange.specs.declared.served.Served.{Served}
 use Rattle.line_exchange.specs.declared.served.Served.TheVariants as served
-use Rattle.service_threads.specs.Kept.{IsServedDisk}
-use Rattle.service_workers.specs.declared.stop_cause.StopCause.{StopCause}
-use Rattle.service_workers.specs.declared.stop_cause.StopCause.TheVariants as cause
+use Rattle.committer_thread.specs.Kept.{IsServedDisk}
+use Rattle.service_actors.specs.declared.stop_cause.StopCause.{StopCause}
+use Rattle.service_actors.specs.declared.stop_cause.StopCause.TheVariants as cause
 use Rattle.line_exchange.specs.declared.printed.Printed.{Printed}
 use Rattle.line_exchange.specs.declared.line_fault.LineFault.TheVariants.{Failed}
 use Rattle.line_exchange.specs.Inputs.{Input}

@@ -1,7 +1,7 @@
 -- How many editors and forwarders there may be.
 use Rattle.std.specs.Prelude.{◌+◌, ◌<◌}
-use Rattle.service_threads.specs.declared.config.ServiceConfig.{ServiceConfig}
-use Rattle.service_threads.specs.Config.{IsServiceConfig}
+use Rattle.committer_thread.specs.declared.config.ServiceConfig.{ServiceConfig}
+use Rattle.committer_thread.specs.Config.{IsServiceConfig}
 
 -- these numbers, and readers of the board enough for all of them and for tables: `generations` gives 128
 pub record IsSeated (config : ServiceConfig) : Type 0 where

@@ -7,11 +7,11 @@ use Rattle.layout_2.specs.Standing.{StandsFor}
 use Rattle.command_output.specs.declared.fault.Fault.{Fault}
 use Rattle.command_output.specs.declared.fault.Fault.TheVariants as told
 use Rattle.device_commands.specs.Openings.{IsOpenFault, TellsOf}
-use Rattle.written_values.specs.Words.{IsWithin}
-use Rattle.written_values.specs.declared.words.LandmarkWords.{LandmarkWords}
-use Rattle.service_threads.specs.Kept.{HasFailed}
-use Rattle.service_workers.specs.declared.stop_cause.StopCause.{StopCause}
-use Rattle.service_workers.specs.declared.stop_cause.StopCause.TheVariants as cause
+use Rattle.value_syntax.specs.Words.{IsWithin}
+use Rattle.value_syntax.specs.declared.words.LandmarkWords.{LandmarkWords}
+use Rattle.committer_thread.specs.Kept.{HasFailed}
+use Rattle.service_actors.specs.declared.stop_cause.StopCause.{StopCause}
+use Rattle.service_actors.specs.declared.stop_cause.StopCause.TheVariants as cause
 
 -- what is told of threads that stopped
 abbrev pub told_fault : StopCause → Fault

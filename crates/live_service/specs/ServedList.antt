@@ -14,11 +14,11 @@ use Rattle.group_commit.specs.Settling.{settle}
 use Rattle.generations.specs.Beginnings.{Beginning, GoesOn, Opening}
 use Rattle.generations.specs.Knowledges.{Knowledge}
 use Rattle.generations.specs.Posts.{Posts}
-use Rattle.settled_lists.specs.declared.builds.Builds.{Builds}
-use Rattle.settled_lists.specs.declared.builds.Builds.TheVariants.{InTurn, Beside}
-use Rattle.settled_lists.specs.Posted.{ArePosted}
-use Rattle.service_threads.specs.Kept.{HasSettled, IsServedDisk, StandsForBeginning}
-use Rattle.service_workers.specs.declared.stop_cause.StopCause.{StopCause}
+use Rattle.request_lists.specs.declared.builds.Builds.{Builds}
+use Rattle.request_lists.specs.declared.builds.Builds.TheVariants.{InTurn, Beside}
+use Rattle.request_lists.specs.Posted.{ArePosted}
+use Rattle.committer_thread.specs.Kept.{HasSettled, IsServedDisk, StandsForBeginning}
+use Rattle.service_actors.specs.declared.stop_cause.StopCause.{StopCause}
 use Rattle.live_lines.specs.declared.answer.Answer.{Answer}
 use Rattle.intake.specs.Turns.{of}
 use Rattle.line_exchange.specs.Inputs.{Input, Bytes, Script}

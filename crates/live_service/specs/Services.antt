@@ -5,8 +5,8 @@ use Rattle.disk_trait.specs.declared.disk.Disk.{Ghosts}
 use Rattle.command_output.specs.declared.fault.Fault.{Fault}
 use Rattle.command_output.specs.declared.fault.Fault.TheVariants as told
 use Rattle.line_exchange.specs.declared.answer_writer.AnswerWriter.{Ghosts as Writers}
-use Rattle.written_values.specs.declared.line.ScriptLine.{ScriptLine}
-use Rattle.written_values.specs.declared.words.LandmarkWords.{LandmarkWords}
+use Rattle.value_syntax.specs.declared.line.ScriptLine.{ScriptLine}
+use Rattle.value_syntax.specs.declared.words.LandmarkWords.{LandmarkWords}
 use Rattle.live_service.specs.ServeEnds.{IsServeEnd}
 use Rattle.line_exchange.specs.Gathers.{BreaksOff, IsServed}
 use Rattle.live_lines.specs.Answers.{answer_text, script_text}

@@ -1,8 +1,8 @@
 // The types by which a live service goes on.
+use committer_thread::Setting;
 use disk_trait::Disk;
 use new_devices::NewDevices;
-use service_threads::Setting;
-use service_workers::Gate;
+use service_actors::Gate;
 use std::marker::PhantomData;
 use std::sync::Wait;
 use std::thread::Threads;

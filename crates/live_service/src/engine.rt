@@ -6,12 +6,12 @@ ghost use Rattle.requests.specs.declared.request.Request.{Request};
 ghost use Rattle.layout_2.specs.State.{State};
 ghost use Rattle.intake.specs.Turns.{of};
 ghost use Rattle.checkpoint.specs.StoreWords.{state_of, view_of};
-ghost use Rattle.settled_lists.specs.declared.builds.Builds.{Builds};
-ghost use Rattle.settled_lists.specs.Posted.{ArePosted};
+ghost use Rattle.request_lists.specs.declared.builds.Builds.{Builds};
+ghost use Rattle.request_lists.specs.Posted.{ArePosted};
 ghost use Rattle.committer.specs.CommitterWords.{got_of, posts_of, queue_of, store_of, taker_of};
 ghost use Rattle.committer.specs.Listed.{IsListedFrom, StaysListedSo};
-ghost use Rattle.service_threads.specs.Kept.{HasLostDevice, HasSettledFrom, IsFresh, IsOnCourse, KeepsQueue, PostsAlong};
-ghost use Rattle.service_threads.specs.Pace.{IsBegun, IsShown, IsUpToDate};
+ghost use Rattle.committer_thread.specs.Kept.{HasLostDevice, HasSettledFrom, IsFresh, IsOnCourse, KeepsQueue, PostsAlong};
+ghost use Rattle.committer_thread.specs.Pace.{IsBegun, IsShown, IsUpToDate};
 ghost use Rattle.live_service.specs.Seated.{IsSeated};
 ghost use Rattle.live_service.specs.ServedList.{EndsServed, builds_of};
 ghost use Rattle.line_workers.specs.Submits.{AreAllEditors, ComesBack, HasNoted};
@@ -23,18 +23,18 @@ use crate::ending::{Ending, Joined};
 use crate::opened::{EngineParts, Opened, Places, PlacesOf};
 use checkpoint::Store;
 use committer::Committer;
+use committer_thread::{RebuildSchedule, ServiceConfig, Site, begun, commit_all, commit_beside};
 use disk_trait::Disk;
 use generations::{BoardReader, History};
 use group_commit::Desk;
 use intake::{Editor, Taker, open_intake};
-use line_exchange::{Exchange, Noted, Stream};
+use line_exchange::{LineQueues, Noted, Stream};
 use line_workers::{TablesReader, Workplace, edit_lines, forward_lines, table_lines, wait_lines};
 use packet_ways::BoardName;
 use put_lines::PutLines;
+use request_lists::Builds;
 use requests::SESSIONS;
-use service_threads::{Rebuilds, ServiceConfig, Site, begun, commit_all, commit_beside};
-use service_workers::{ForwarderOf, Gate, SessionEditor, StopCause};
-use settled_lists::Builds;
+use service_actors::{BoardForwarder, Gate, SessionEditor, StopCause};
 use std::alloc::{AllocError, Global};
 use std::marker::PhantomData;
 use std::snapshot::Snapshot;
@@ -45,9 +45,9 @@ use table_files::TableFiles;
 
 /// The editors, the forwarders, and where tables are put and new devices made, with a reader for tables, at the board that `B` names.
 #[derive(Drop)]
-pub struct Seats<B: BoardName, P> {
+pub struct Actors<B: BoardName, P> {
     pub editors: Vec<SessionEditor<B>>,
-    pub forwarders: Vec<ForwarderOf<B>>,
+    pub forwarders: Vec<BoardForwarder<B>>,
     pub places: P,
     pub reader: TablesReader<B>,
 }
@@ -113,7 +113,7 @@ fn start_forwarders<
     scope: &Scope<'s, E>,
     here: &'s Workplace<'s, J, B, R>,
     gate: &'s G,
-    forwarders: Vec<ForwarderOf<B>>,
+    forwarders: Vec<BoardForwarder<B>>,
     handles: &mut Vec<JoinHandle<()>>,
 ) {
     let mut place: usize = 0;
@@ -300,7 +300,7 @@ fn commit_lines<'s, E, J: Stream, B: BoardName + Send + Sync, A: Around, Q: Wait
     here: &'s Workplace<'s, J, B, A::Runtime>,
     gate: &'s A::Gate,
     committer: &mut Committer<A::Device, Q>,
-    rebuilds: &mut Rebuilds,
+    rebuilds: &mut RebuildSchedule,
     devices: &mut A::Devices,
 ) -> Result<bool, StopCause>
     requires opening { (posts_of committer.old).opening ≡ B.opening }
@@ -344,8 +344,8 @@ fn run_seats<'a, J: Stream + Send + Sync, B: BoardName + Send + Sync, A: Around,
     here: &'a Workplace<'a, J, B, A::Runtime>,
     gate: &'a A::Gate,
     committer: Committer<A::Device, Q>,
-    seats: Seats<B, PlacesOf<A>>,
-    rebuilds: Rebuilds,
+    seats: Actors<B, PlacesOf<A>>,
+    rebuilds: RebuildSchedule,
 ) -> (Result<Ending, StopCause>, Store<A::Device>)
     requires opening { (posts_of committer).opening ≡ B.opening }
     requires fresh { IsFresh committer }
@@ -369,7 +369,7 @@ fn run_seats<'a, J: Stream + Send + Sync, B: BoardName + Send + Sync, A: Around,
         {
             let mut committer = committer;
             let mut rebuilds = rebuilds;
-            let Seats {
+            let Actors {
                 editors,
                 forwarders,
                 places,
@@ -427,10 +427,10 @@ fn run<J: Stream + Send + Sync, B: BoardName + Send + Sync, A: Around, Q: Wait +
     rt: &A::Runtime,
     alloc: Global,
     committer: Committer<A::Device, Q>,
-    seats: Seats<B, PlacesOf<A>>,
-    rebuilds: Rebuilds,
+    seats: Actors<B, PlacesOf<A>>,
+    rebuilds: RebuildSchedule,
     gate: &A::Gate,
-    exchange: &Exchange<J, B>,
+    exchange: &LineQueues<J, B>,
 ) -> (Result<Ending, StopCause>, Store<A::Device>)
     requires opening { (posts_of committer).opening ≡ B.opening }
     requires fresh { IsFresh committer }
@@ -480,7 +480,7 @@ fn forwarders<B: BoardName>(
     alloc: Global,
     readers: &mut Vec<BoardReader>,
     first: usize,
-) -> Result<Vec<ForwarderOf<B>>, AllocError>
+) -> Result<Vec<BoardForwarder<B>>, AllocError>
     requires { All (λ r. r.all.opening ≡ B.opening) readers.old.items }
     ensures named { IfOk result (λ _. All (λ r. r.all.opening ≡ B.opening) readers.new.items) }
     ensures left { IfOk result (λ _. vec_len readers.new ≤ first) }
@@ -490,7 +490,7 @@ fn forwarders<B: BoardName>(
         let Some(reader) = readers.pop() else {
             unreachable!()
         };
-        all.push(ForwarderOf::new(reader))?;
+        all.push(BoardForwarder::new(reader))?;
     }
     Ok(all)
 }
@@ -514,7 +514,7 @@ fn seat_all<B: BoardName, P: Drop>(
     places: P,
     readers: Vec<BoardReader>,
     starts: &[u64; SESSIONS],
-) -> Result<(Taker, Seats<B, P>), AllocError>
+) -> Result<(Taker, Actors<B, P>), AllocError>
     requires config { IsSeated config }
     requires some { 0 < vec_len readers }
     requires readers { All (λ r. r.all.opening ≡ B.opening) readers.items }
@@ -528,7 +528,7 @@ fn seat_all<B: BoardName, P: Drop>(
     let forwarders = forwarders::<B>(alloc, &mut readers, config.editors as usize)?;
     let (taker, editors) = open_intake(alloc, config.places as usize, readers, starts)?;
     let editors = named::<B>(alloc, editors)?;
-    let seats = Seats {
+    let seats = Actors {
         editors,
         forwarders,
         places,
@@ -537,13 +537,13 @@ fn seat_all<B: BoardName, P: Drop>(
     Ok((taker, seats))
 }
 
-// Seats editors and forwarders at the board that `B` names, and runs them.
+// Actors editors and forwarders at the board that `B` names, and runs them.
 fn seat<J: Stream + Send + Sync, B: BoardName + Send + Sync, A: Around, Q: Wait + Drop>(
     rt: &A::Runtime,
     alloc: Global,
     parts: EngineParts<B, A::Device, PlacesOf<A>, Q>,
     gate: &A::Gate,
-    exchange: &Exchange<J, B>,
+    exchange: &LineQueues<J, B>,
 ) -> (Result<Ending, StopCause>, Store<A::Device>)
     requires builds { parts.opened.config.builds ≡ builds_of J.input }
     ensures { EndsServed B.opening J.book parts.opened.store J.input J.editors result.0 (view_of result.1) }
@@ -560,7 +560,7 @@ fn seat<J: Stream + Send + Sync, B: BoardName + Send + Sync, A: Around, Q: Wait 
         source,
         places,
     } = opened;
-    let Ok(rebuilds) = Rebuilds::new(alloc, source, config.rounds, config.builds) else {
+    let Ok(rebuilds) = RebuildSchedule::new(alloc, source, config.rounds, config.builds) else {
         return (Err(StopCause::Memory), store);
     };
     match seat_all::<B, PlacesOf<A>>(alloc, config.service, places, readers, &store.starts()) {
@@ -579,7 +579,7 @@ pub fn engine<J: Stream + Send + Sync, B: BoardName + Send + Sync, A: Around, Q:
     alloc: Global,
     parts: EngineParts<B, A::Device, PlacesOf<A>, Q>,
     gate: &A::Gate,
-    exchange: &Exchange<J, B>,
+    exchange: &LineQueues<J, B>,
 ) -> (Result<Ending, StopCause>, A::Device)
     requires builds { parts.opened.config.builds ≡ builds_of J.input }
     ensures { EndsServed B.opening J.book parts.opened.store J.input J.editors result.0 (A.Device.view result.1) }

@@ -51,9 +51,9 @@ mod serve;
 mod serving;
 
 pub use around::{Around, Kinds};
+pub use committer_thread::{Gate, OpenGate, ServiceConfig};
 pub use line_exchange::{AnswerWriter, Served, WatchedOutput};
 pub use opened::{EngineConfig, Env, LiveInput, Opened, Places, ServedDevice, Surroundings};
 pub use opening::open_device;
 pub use serve::serve_live;
-pub use service_threads::{Gate, OpenGate, ServiceConfig};
 pub use serving::{seated, serve_opened, take_back};

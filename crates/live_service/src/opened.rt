@@ -6,19 +6,19 @@ ghost use Rattle.live_service.specs.ServedList.{IsBoardOf};
 
 use crate::around::{Around, Kinds};
 use checkpoint::Store;
+use committer_thread::{ServiceConfig, Setting};
 use disk_trait::Disk;
 use generations::{BoardReader, BoardWriter};
 use new_devices::NewDevices;
 use packet_ways::BoardName;
-use service_threads::{ServiceConfig, Setting};
-use service_workers::{Gate, WordSource};
-use settled_lists::Builds;
+use request_lists::Builds;
+use service_actors::{Gate, WordSource};
 use std::alloc::Global;
 use std::marker::PhantomData;
 use std::sync::Wait;
 use std::thread::Threads;
 use table_files::TableFiles;
-use written_values::LandmarkWords;
+use value_syntax::LandmarkWords;
 
 /// What the engine works by.
 #[derive(Clone, Copy, Drop)]

@@ -2,16 +2,16 @@
 ghost use Rattle.std.specs.Prelude.{IfErr, IfOk};
 ghost use Rattle.checkpoint.specs.Opening.{IsOpened};
 ghost use Rattle.checkpoint.specs.StoreWords.{nodes_of};
-ghost use Rattle.service_workers.specs.Source.{IsSourceOf};
+ghost use Rattle.service_actors.specs.Source.{IsSourceOf};
 ghost use Rattle.live_service.specs.ServeEnds.{IsRefusedFor};
 
 use checkpoint::{Store, standing_law};
 use command_output::Fault;
 use device_commands::open;
 use disk_trait::Disk;
-use service_workers::WordSource;
+use service_actors::WordSource;
 use std::alloc::Global;
-use written_values::LandmarkWords;
+use value_syntax::LandmarkWords;
 
 /// Opens a device, and reads which landmark words its nodes get. One that is refused was only read, and is handed back.
 pub fn open_device<D: Disk>(
@@ -23,6 +23,7 @@ pub fn open_device<D: Disk>(
     ensures source { IfOk result (λ r. IsSourceOf words.now (nodes_of r.0) r.1) }
     ensures refused { IfErr result (λ e. IsRefusedFor words.now (D.view disk) (D.view e.1) e.0) }
 {
+    // The disk's bytes stand for one state at most: the one that is opened.
     standing_law();
     let store = match open(alloc, disk) {
         Ok(store) => store,

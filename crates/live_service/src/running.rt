@@ -3,7 +3,7 @@ ghost use Rattle.std.specs.Prelude.{◌≡◌, ◌≢◌, IfErr, IfOk, IfSome, I
 ghost use Rattle.checkpoint.specs.StoreWords.{is_down, state_of, view_of};
 ghost use Rattle.command_output.specs.declared.fault.Fault.{Fault};
 ghost use Rattle.generations.specs.Beginnings.{GoesOn};
-ghost use Rattle.service_threads.specs.Kept.{HasSettledSome};
+ghost use Rattle.committer_thread.specs.Kept.{HasSettledSome};
 ghost use Rattle.live_service.specs.ServeEnds.{IsLater, told_fault};
 ghost use Rattle.line_exchange.specs.declared.served.Served.{Served};
 ghost use Rattle.line_exchange.specs.Ends.{fault_of};
@@ -21,10 +21,10 @@ use crate::opened::{EngineParts, Env, Opened, Places, PlacesOf};
 use checkpoint::Store;
 use command_output::Fault;
 use disk_trait::Disk;
-use line_exchange::{Console, Exchange, LineFault, Printed, Served, Stream, read_lines};
+use line_exchange::{Console, LineFault, LineQueues, Printed, Served, Stream, read_lines};
 use new_devices::NewDevices;
 use packet_ways::BoardName;
-use service_workers::StopCause;
+use service_actors::StopCause;
 use std::alloc::Global;
 use std::marker::PhantomData;
 use std::snapshot::Snapshot;
@@ -191,7 +191,7 @@ fn start_engine<
     alloc: Global,
     parts: EngineParts<B, A::Device, PlacesOf<A>, Q>,
     gate: &'s A::Gate,
-    exchange: &'s Exchange<J, B>,
+    exchange: &'s LineQueues<J, B>,
     unmade: &'s AtomicBool,
 ) -> Result<Started<J, B, A::Device>, A::Device>
 where
@@ -266,7 +266,7 @@ pub(crate) fn run_threads<
     env: Env<'a, A::Runtime>,
     parts: EngineParts<B, A::Device, PlacesOf<A>, Q>,
     gate: &'a A::Gate,
-    exchange: &'a Exchange<J, B>,
+    exchange: &'a LineQueues<J, B>,
     lines: K::Lines,
     console: K::Console,
 ) -> (K::Console, Served, Option<A::Device>)

@@ -1,8 +1,8 @@
 // The live service on a device.
 ghost use Rattle.std.specs.Prelude.{◌≡◌, IfSome, IsSome, IsTrue};
 ghost use Rattle.command_output.specs.declared.fault.Fault.{Fault};
-ghost use Rattle.service_threads.specs.Config.{IsServiceConfig};
-ghost use Rattle.service_threads.specs.Kept.{IsLeftBy};
+ghost use Rattle.committer_thread.specs.Config.{IsServiceConfig};
+ghost use Rattle.committer_thread.specs.Kept.{IsLeftBy};
 ghost use Rattle.live_service.specs.ServeEnds.{IsServeEnd};
 ghost use Rattle.line_exchange.specs.declared.served.Served.{Served};
 ghost use Rattle.line_exchange.specs.Ends.{HasToldSo, TellsEnd, fault_of};
@@ -21,7 +21,7 @@ use command_output::FaultWriter;
 use line_exchange::{AnswerWriter, InputSource, Served, Stream, Terminal, told};
 use new_devices::NewDevices;
 use put_lines::BlankBook;
-use settled_lists::Builds;
+use request_lists::Builds;
 use std::io::BufRead;
 use std::marker::Brand;
 
@@ -115,6 +115,7 @@ where
     } = device;
     let LiveInput { lines, rounds } = input;
     let Surroundings { gate, places } = around;
+    // The disk's bytes stand for one state at most: the one that is opened.
     standing_law();
     let (store, source) = match open_device(env.alloc, disk, &words) {
         Ok(opened) => opened,

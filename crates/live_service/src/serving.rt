@@ -1,7 +1,7 @@
 // The service of an opened device, whatever its lines come from and whoever prints the answers.
 ghost use Rattle.std.specs.Prelude.{◌≡◌, IfOk};
 ghost use Rattle.checkpoint.specs.StoreWords.{state_of};
-ghost use Rattle.service_threads.specs.Config.{IsServiceConfig};
+ghost use Rattle.committer_thread.specs.Config.{IsServiceConfig};
 ghost use Rattle.live_service.specs.Runs.{HasRun};
 ghost use Rattle.live_service.specs.Seated.{IsSeated};
 ghost use Rattle.live_service.specs.ServedList.{IsBoardOf, builds_of};
@@ -12,13 +12,13 @@ use crate::opened::{EngineConfig, EngineParts, Env, Opened, PlacesOf};
 use crate::running::run_threads;
 use checkpoint::Store;
 use command_output::Fault;
+use committer_thread::ServiceConfig;
 use disk_trait::Disk;
 use generations::{BoardReader, BoardWriter, MOST_READERS, board};
-use line_exchange::{Console, Exchange, LineSource, Served, Stream};
+use line_exchange::{Console, LineQueues, LineSource, Served, Stream};
 use new_devices::NewDevices;
 use packet_ways::BoardName;
 use put_lines::BlankBook;
-use service_threads::ServiceConfig;
 use std::alloc::{AllocError, Global};
 use std::marker::{Brand, PhantomData};
 use std::sync::Wait;
@@ -106,7 +106,7 @@ where
     let service = opened.config.service;
     let known = writer.tell().history();
     let starts = opened.store.starts();
-    match Exchange::<J, B>::new(
+    match LineQueues::<J, B>::new(
         alloc,
         service.editors,
         service.forwarders,

@@ -1,7 +1,7 @@
 // A line `metrics` behind edits, by a clock.
 use crate::helpers::{Setup, fresh, got, run, same, text_of};
+use committer_thread::Gate;
 use live_service::{Env, Served};
-use service_threads::Gate;
 use std::process::Abort;
 use std::sync::atomic::{AtomicU64, Ordering};
 

@@ -1,9 +1,8 @@
 // Services that end while their input stays open: whoever still reads it is called off once the fault is told.
 use crate::helpers::{Setup, fresh, got, reopened, run, same, text_of};
 use command_output::Fault;
+use committer_thread::OpenGate;
 use live_service::{Env, Served};
-use service_threads::OpenGate;
-use stand_ins::{BeforeSync, HookedDisk, NarrowWriter};
 use standard_streams::{InterruptibleInput, InterruptingWriter};
 use std::alloc::Global;
 use std::io::{self, BufReader, Read, Write};
@@ -12,6 +11,7 @@ use std::sync::atomic::{AtomicU64, Ordering};
 use std::sync::{Arc, Wait};
 use std::thread;
 use std::thread::Threads;
+use test_doubles::{BeforeSync, HookedDisk, NarrowWriter};
 
 const SETUP: Setup = Setup {
     words: "at:0",

@@ -1,13 +1,13 @@
 // Inputs that end while edits wait.
 use crate::helpers::{Setup, count_lines, fresh, got, reopened, run, same, text_of};
+use committer_thread::OpenGate;
 use live_service::{Env, Served};
-use service_threads::OpenGate;
-use stand_ins::{BeforeSync, HookedDisk, comes};
 use std::alloc::Global;
 use std::io::{self, BufReader, Read};
 use std::process::Abort;
 use std::sync::Arc;
 use std::sync::atomic::{AtomicU64, Ordering};
+use test_doubles::{BeforeSync, HookedDisk, comes};
 
 /// How often the input has ended, and how often that was waited for in vain.
 #[derive(Drop)]

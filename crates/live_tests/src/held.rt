@@ -1,8 +1,7 @@
 // Lines that are worked on while the device holds a commit.
 use crate::helpers::{Setup, fresh, got, run, same, text_of};
+use committer_thread::Gate;
 use live_service::{Env, Served};
-use service_threads::Gate;
-use stand_ins::{BeforeSync, HookedDisk, comes};
 use std::alloc::Global;
 use std::io::{self, BufReader, Read, Write};
 use std::process::Abort;
@@ -10,6 +9,7 @@ use std::sync::atomic::{AtomicBool, AtomicU64, Ordering};
 use std::sync::{Arc, Wait};
 use std::thread;
 use std::thread::Threads;
+use test_doubles::{BeforeSync, HookedDisk, comes};
 
 /// What threads and disk tell each other.
 #[derive(Drop)]

@@ -2,12 +2,12 @@
 use crate::places::NoFiles;
 use checkpoint::Store;
 use command_output::WatchedWriter;
+use committer_thread::{Gate, OpenGate, ServiceConfig};
 use disk_trait::{Disk, MemDisk};
 use live_service::{
     Env, LiveInput, Places, Served, ServedDevice, Surroundings, WatchedOutput, serve_live,
 };
 use new_devices::NoDevices;
-use service_threads::{Gate, OpenGate, ServiceConfig};
 use std::alloc::Global;
 use std::fmt::Debug;
 use std::io::{BufRead, Write};
@@ -16,7 +16,7 @@ use std::str;
 use std::sync::Wait;
 use std::thread::Threads;
 use table_files::TableFiles;
-use written_values::landmark_words;
+use value_syntax::landmark_words;
 
 // The value of an answer that has to have one.
 pub(crate) fn got<T, E: Drop>(rt: &impl Abort, answer: Result<T, E>) -> T {
@@ -147,12 +147,12 @@ pub(crate) fn run_plain<R: Threads + Wait + Abort + Sync, O: Write, E: Write>(
 
 /// A fresh device.
 pub(crate) fn fresh(rt: &impl Abort, alloc: Global, nodes: u16) -> MemDisk {
-    got(rt, stand_ins::formatted(alloc, nodes))
+    got(rt, test_doubles::formatted(alloc, nodes))
 }
 
 /// The store of a disk.
 pub(crate) fn reopened<D: Disk + Drop>(rt: &impl Abort, alloc: Global, disk: D) -> Store<D> {
-    got(rt, stand_ins::opened(alloc, disk))
+    got(rt, test_doubles::opened(alloc, disk))
 }
 
 /// Sees that the first of so many edges of the path are there, as many as the count says, which it gives.

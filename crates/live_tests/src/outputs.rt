@@ -1,15 +1,15 @@
 // Outputs that refuse, and inputs that fail.
 use crate::helpers::{Setup, beginning_of, fresh, got, run, run_plain, same, text_of};
 use command_output::Fault;
+use committer_thread::OpenGate;
 use disk_trait::MemDisk;
 use live_service::{Env, Served};
-use service_threads::OpenGate;
-use stand_ins::NarrowWriter;
 use std::alloc::Global;
 use std::io::{self, BufReader, ErrorKind, Read};
 use std::process::Abort;
 use std::sync::Wait;
 use std::thread::Threads;
+use test_doubles::NarrowWriter;
 
 const SETUP: Setup = Setup {
     words: "at:0",

@@ -1,12 +1,12 @@
 // Edits beside a build that is held. Those beside builds that aren't are in conformance/live_waits.txt.
 use crate::helpers::{Setup, count_lines, fresh, got, run, same, text_of};
+use committer_thread::Gate;
 use live_service::{Env, Served};
-use service_threads::Gate;
-use stand_ins::comes;
 use std::alloc::Global;
 use std::io::{self, Write};
 use std::process::Abort;
 use std::sync::atomic::{AtomicBool, AtomicU64, Ordering};
+use test_doubles::comes;
 
 // A hundred edits of each of 24 sessions, all at once: each session has an edge of its own.
 fn burst(rt: &impl Abort, alloc: Global) -> String {

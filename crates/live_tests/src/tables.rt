@@ -5,14 +5,13 @@ ghost use Rattle.std.specs.Prelude.{map};
 use crate::helpers::{Setup, fresh, got, run_at, same, text_of};
 use crate::places::{Kept, KeptFiles};
 use command_output::Fault;
+use committer_thread::Gate;
 use disk_trait::Log;
 use graph_edits::Graph;
 use live_service::{Env, Served};
 use router_table::RouterTable;
 use scheme_builds::scheme_of;
 use schemes::Scheme;
-use service_threads::Gate;
-use stand_ins::comes;
 use std::alloc::Global;
 use std::io::{self, BufReader, Read};
 use std::process::Abort;
@@ -21,6 +20,7 @@ use std::sync::{Arc, Mutex, Wait};
 use std::thread;
 use std::thread::Threads;
 use table_files::{TableFile, TableFiles};
+use test_doubles::comes;
 
 // The scheme of five nodes without edges, with the landmark 2.
 fn scheme_of_none(rt: &impl Abort, alloc: Global) -> Scheme {

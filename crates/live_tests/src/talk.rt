@@ -1,8 +1,8 @@
 // Conversations: lines are given once all before them are answered.
 use crate::helpers::{Setup, count_lines, got, run, same};
+use committer_thread::OpenGate;
 use disk_trait::MemDisk;
 use live_service::{Env, Served};
-use service_threads::OpenGate;
 use std::alloc::Global;
 use std::io::{self, BufReader, Read, Write};
 use std::process::Abort;

@@ -1,6 +1,6 @@
 -- Ops in two parts, and the places of those that are refused.
 use Rattle.std.proofs.Common.{arith, ◌≡◌, ◌+◌, ◌<◌, ◌≤◌, ◌∙◌, sym, ap, subst, ℕ, List, [], ◌∷◌, ◌++◌, length, take, drop, get_or, Option, Some, None, Result, Ok, Err}
-use Rattle.layout_parts.proofs.Results.{ok_is}
+use Rattle.layout_reader.proofs.Results.{ok_is}
 use Rattle.graph_edits.specs.declared.edits.Op.{Op}
 use Rattle.graph_edits.specs.declared.edits.Code.{Code}
 use Rattle.graph_edits.specs.Edges.{EdgeMap, Network}

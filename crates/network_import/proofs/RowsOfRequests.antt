@@ -1,6 +1,6 @@
 -- Requests in a row.
 use Rattle.std.proofs.Common.{arith, ◌≡◌, ◌+◌, ◌<◌, ◌≤◌, ◌∙◌, sym, ap, subst, ℕ, List, [], ◌∷◌, ◌++◌, length, Option, Some, None}
-use Rattle.layout_parts.proofs.Results.{some_is}
+use Rattle.layout_reader.proofs.Results.{some_is}
 use Rattle.std.specs.Option.{option_map}
 use Rattle.graph_edits.specs.Edges.{Network}
 use Rattle.graph_edits.specs.Changes.{fold}

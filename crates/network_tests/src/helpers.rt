@@ -43,14 +43,14 @@ impl Progress for Came {
 pub(crate) fn opened(rt: &impl Abort, alloc: Global, disk: MemDisk) -> Store<MemDisk>
     ensures { is_down result ≡ false }
 {
-    stand_ins::opened(alloc, disk).ok().expect(rt, "a store")
+    test_doubles::opened(alloc, disk).ok().expect(rt, "a store")
 }
 
 /// A new store for so many nodes.
 pub(crate) fn new_store(rt: &impl Abort, alloc: Global, nodes: u16) -> Store<MemDisk>
     ensures { is_down result ≡ false }
 {
-    opened(rt, alloc, got(rt, stand_ins::formatted(alloc, nodes)))
+    opened(rt, alloc, got(rt, test_doubles::formatted(alloc, nodes)))
 }
 
 /// Edges to be added to the network of a store.

@@ -2,7 +2,7 @@
 use Rattle.std.proofs.Common.{◌≡◌, ℕ, zero, suc, List, IsTrue, ap, subst, get_or, replicate}
 use Rattle.disk_trait.specs.Disk.{DiskView, bytes_at}
 use Rattle.disk_trait.specs.Image.{zeros}
-use Rattle.layout_parts.specs.Refusals.{magic}
+use Rattle.layout_reader.specs.Refusals.{magic}
 use Rattle.layout_2.specs.Fronts.{HasThisVersion}
 use Rattle.checkpoint.specs.Whole.{IsAllForeign}
 use Rattle.new_devices.specs.Events.{IsBlank}

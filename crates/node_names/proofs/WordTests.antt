@@ -2,7 +2,7 @@
 use Rattle.std.proofs.Common.{arith, ◌≡◌, ◌≢◌, ◌<◌, ◌+◌, ◌^◌, ◌∙◌, inl, inr, subst, sym, ap, ℕ, List, [], ◌∷◌, ◌++◌, Option, Some, None, false, true, get_or, length}
 use Rattle.std.specs.Prelude.{IfSome, MatchOption}
 use Rattle.std.proofs.lemmas.Option.{none-some}
-use Rattle.written_values.specs.Reading.{texts_of}
+use Rattle.value_syntax.specs.Reading.{texts_of}
 use Rattle.edge_lists.specs.declared.called.Called.{Called}
 use Rattle.edge_lists.specs.declared.called.Called.TheVariants.{Numbers, Names}
 use Rattle.node_names.specs.Words.{IsBare, IsNamed, LacksFront, StandsFor}

@@ -9,7 +9,7 @@
 //! | `Bern` | the node of that name, which begins with no `#` and no quotation mark |
 //! | `5`, where nodes are called by numbers | the node 5 |
 //!
-//! An op is `add:A:B:W`, `set:A:B:W` or `cut:A:B`, as `written_values` has it with numbers. A word before a colon has none in it, but in
+//! An op is `add:A:B:W`, `set:A:B:W` or `cut:A:B`, as `value_syntax` has it with numbers. A word before a colon has none in it, but in
 //! quotation marks.
 //!
 //! What is written is a word too: a name as it is; in quotation marks where it is empty, begins with `#`, or a blank, a colon or a quotation

@@ -10,7 +10,7 @@ use crate::words::{node_by, node_named};
 use edge_lists::Called;
 use graph_edits::Op;
 use std::alloc::Global;
-use written_values::number;
+use value_syntax::number;
 
 // The node in front of the first colon, and the text behind it.
 fn leading_node<'a>(

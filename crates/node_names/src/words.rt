@@ -1,12 +1,12 @@
 //! Words of nodes.
 ghost use Rattle.std.specs.Prelude.{◌≡◌, ◌<◌, ◌^◌, ℕ, IfSome, IfNone, Some, length};
-ghost use Rattle.written_values.specs.Reading.{IfRead, Reads, texts_of};
+ghost use Rattle.value_syntax.specs.Reading.{IfRead, Reads, texts_of};
 ghost use Rattle.edge_lists.specs.NameLists.{IsNumberOf};
 ghost use Rattle.node_names.specs.Words.{IsNamed, IsNumbered, Lacks, StandsFor, quoted};
 
 use edge_lists::Called;
 use std::alloc::{AllocError, Global};
-use written_values::node;
+use value_syntax::node;
 
 /// The node for which a word stands, where it stands for one.
 pub fn node_by(alloc: Global, called: &Called<'_>, word: &str) -> Result<Option<u16>, AllocError>

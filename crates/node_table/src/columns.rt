@@ -89,6 +89,7 @@ pub(crate) fn number_reached<N: Numbering>(
         → IsTreeWithin graph.now limit root reached.now
         → AreRowsWithin graph.now limit root (rows_by root reached.now places.new numbered.items)) }
 {
+    // It tells that the graph is sound.
     let _sound = graph.nodes();
     let members = members(alloc, reached)?;
     note_places(reached, places);

@@ -31,7 +31,7 @@ mod ports;
 mod text;
 mod wire;
 
-pub use digits::{NoBytes, bytes_in};
+pub use digits::{HexError, bytes_in};
 pub use laws::spelling_laws;
 pub use layout::{ADDRESS_SIZE, PACKET_SIZE};
 pub use text::{moved_text, packet_text, refused_name, told_text, unread_name};

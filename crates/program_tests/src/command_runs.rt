@@ -3,7 +3,6 @@ use crate::helpers::{
     device_in, expect_run, got, make_folder, remove_folder, run_once, same, text_of, words_of,
 };
 use commands::run_words;
-use stand_ins::NarrowWriter;
 use std::fs::File;
 use std::io;
 use std::process::Abort;
@@ -11,6 +10,7 @@ use std::rt::{Clock, Files};
 use std::sync::Wait;
 use std::thread::Threads;
 use table_files::TablePlaces;
+use test_doubles::NarrowWriter;
 
 fn expect_output_fault<
     'a,

@@ -7,12 +7,12 @@ use device_commands::{edit, format, listing, migrate, resume};
 use disk_trait::{CrashDisk, MemDisk};
 use generations::Verdict;
 use graph_edits::{Change, Op};
-use stand_ins::CRASH_WORDS;
 use std::process::Abort;
+use test_doubles::CRASH_WORDS;
 
 // A device of so many zeros.
 fn blank<R: AllocGlobal + Abort>(rt: &R, len: usize) -> MemDisk {
-    got(rt, stand_ins::blank(rt.alloc(), len))
+    got(rt, test_doubles::blank(rt.alloc(), len))
 }
 
 // A fresh device of five nodes.

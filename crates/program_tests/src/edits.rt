@@ -5,11 +5,11 @@ use device_commands::edit;
 use disk_trait::MemDisk;
 use generations::Verdict;
 use graph_edits::{Change, Op};
-use stand_ins::{formatted, opened};
 use std::alloc::Global;
 use std::process::Abort;
 use std::sync::Wait;
 use std::thread::Threads;
+use test_doubles::{formatted, opened};
 
 const ACCEPTED: Result<Verdict, Fault> = Ok(Verdict::Accepted { count: 1 });
 

@@ -3,9 +3,9 @@ use crate::helpers::{MOVED, NEW_LEN, PATH_EDGES, blank, has, holds, path, same, 
 use checkpoint::Store;
 use disk_trait::{CrashDisk, MemDisk, Plan};
 use migrate::{MigrateRefused, bring_over};
-use stand_ins::CRASH_WORDS;
 use std::alloc::Global;
 use std::process::Abort;
+use test_doubles::CRASH_WORDS;
 
 #[test]
 fn tells_each_fault_of_the_old_device(rt: HostRuntime) {

@@ -2,7 +2,7 @@
 use checkpoint::Store;
 use disk_trait::{Disk, MemDisk};
 use journal::Entry;
-use layout_parts::Loaded;
+use layout_reader::Loaded;
 use migrate::{MigrateRefused, Moved};
 use std::alloc::Global;
 use std::fmt::Debug;
@@ -93,12 +93,12 @@ pub(crate) fn same<T: Copy + PartialEq + Debug>(rt: &impl Abort, found: T, want:
 // Puts bytes on a disk.
 pub(crate) fn put(rt: &impl Abort, disk: &mut MemDisk, text: Text) {
     let (at, bytes) = text;
-    got(rt, stand_ins::put(disk, at, bytes));
+    got(rt, test_doubles::put(disk, at, bytes));
 }
 
 // A disk of so many zeros.
 pub(crate) fn blank(rt: &impl Abort, alloc: Global, len: usize) -> MemDisk {
-    got(rt, stand_ins::blank(alloc, len))
+    got(rt, test_doubles::blank(alloc, len))
 }
 
 // A disk of so many bytes: these texts, and zeros elsewhere.
@@ -125,7 +125,7 @@ pub(crate) fn path(rt: &impl Abort, alloc: Global) -> MemDisk {
 
 fn part(rt: &impl Abort, disk: &mut MemDisk, at: usize) -> [u8; 1024] {
     let mut bytes = [0; 1024];
-    got(rt, stand_ins::read_at(disk, at, &mut bytes));
+    got(rt, test_doubles::read_at(disk, at, &mut bytes));
     bytes
 }
 

@@ -6,7 +6,7 @@ use Rattle.layout_2.specs.Layout.{journal_of}
 use Rattle.layout_2.specs.Records.{Entry, Spells, entries_of}
 use Rattle.layout_2.specs.State.{State}
 use Rattle.layout_2.specs.Standing.{StandsFor}
-use Rattle.written_values.specs.OpText.{op_text}
+use Rattle.value_syntax.specs.OpText.{op_text}
 use Rattle.recent_changes.specs.declared.changes.RecentChanges.{RecentChanges}
 
 -- the changes are those of the records by which the image stands for its state, and those before them are the checkpoint's

@@ -3,10 +3,10 @@ ghost use Rattle.std.specs.Prelude.{◌≡◌, ◌<◌, ◌≤◌, ◌++◌, ◌
 ghost use Rattle.std.specs.String.{string_bytes};
 ghost use Rattle.journal.specs.Records.{SpellsNothing};
 ghost use Rattle.journal.specs.RequestForm.{request_form};
-ghost use Rattle.layout_parts.specs.Refusals.{IsFormatFault, IsFrontFault};
+ghost use Rattle.layout_reader.specs.Refusals.{IsFormatFault, IsFrontFault};
 ghost use Rattle.layout_2.specs.Layout.{device_len, journal_of};
 ghost use Rattle.layout_2.specs.Loading.{IsNotLoaded, IsNotRead, IsRead};
-ghost use Rattle.written_values.specs.OpText.{op_text};
+ghost use Rattle.value_syntax.specs.OpText.{op_text};
 ghost use Rattle.recent_changes.specs.Changes.{AreChangesOf, AreListedIn, change_line, last_lines, left_out, ops_text};
 
 use disk_trait::Disk;

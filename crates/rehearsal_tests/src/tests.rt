@@ -1,21 +1,21 @@
 // What the tests share: texts that are read, and what they ask for. Each call is made again where memory was refused.
-ghost use Rattle.rehearsal_lines.specs.Grammar.{IsRehearsal};
+ghost use Rattle.rehearsal_syntax.specs.Grammar.{IsRehearsal};
 
 use checkpoint::OpenRefused;
-use device_stops::{Call, Kind, KindCount, Stop, Watched, count_stops, stops_of, table_of};
+use crash_points::{Call, Kind, KindCount, Stop, Watched, count_stops, stops_of, table_of};
+use crash_trials::{StopFound, calls_of_last, try_every_stop, try_stop, try_stops};
 use disk_trait::{CrashDisk, Disk, MemDisk, Plan};
-use event_runs::Reply;
+use event_model::Reply;
 use forwarders::Refused as RouteRefused;
 use graph_edits::{Change, Op};
 use group_commit::DeskRefused;
 use intake::SubmitRefused;
-use rehearsal_lines::{Form, LifeLine, LineRefused, RehearsalLine, read_rehearsal};
+use rehearsal_syntax::{Form, LifeLine, LineRefused, RehearsalLine, read_rehearsal};
 use rehearsals::{NotOpenedLine, Rehearsal, RehearseRefused, ReplyLine, lives_of, rehearse};
 use std::alloc::{AllocError, Global};
 use std::fmt::Debug;
 use std::process::Abort;
-use stop_trials::{StopFound, calls_of_last, try_every_stop, try_stop, try_stops};
-use written_values::LandmarkWords;
+use value_syntax::LandmarkWords;
 
 mod counting;
 mod drawn;

@@ -1,13 +1,13 @@
 -- Lines of a rehearsal that stand behind others.
 use Rattle.std.proofs.Common.{◌≡◌, ◌∙◌, refl, sym, ap, subst, ℕ, List, [], ◌∷◌, ◌++◌, append_assoc, reverse}
 use Rattle.std.proofs.lemmas.List.{reverse-append}
-use Rattle.event_runs.specs.declared.event.Event.{Event}
+use Rattle.event_model.specs.declared.event.Event.{Event}
 use Rattle.life_chain.specs.declared.life.Life.{Life}
-use Rattle.rehearsal_lines.specs.declared.line.LifeLine.{LifeLine}
-use Rattle.rehearsal_lines.specs.declared.line.RehearsalLine.{RehearsalLine}
-use Rattle.rehearsal_lines.specs.declared.line.RehearsalLine.TheVariants as written
-use Rattle.rehearsal_lines.specs.declared.stage.Stage.TheVariants.{Made, Living}
-use Rattle.rehearsal_lines.specs.Grammar.{IsEvent, IsLifeOrEvent, StandFrom}
+use Rattle.rehearsal_syntax.specs.declared.line.LifeLine.{LifeLine}
+use Rattle.rehearsal_syntax.specs.declared.line.RehearsalLine.{RehearsalLine}
+use Rattle.rehearsal_syntax.specs.declared.line.RehearsalLine.TheVariants as written
+use Rattle.rehearsal_syntax.specs.declared.stage.Stage.TheVariants.{Made, Living}
+use Rattle.rehearsal_syntax.specs.Grammar.{IsEvent, IsLifeOrEvent, StandFrom}
 use Rattle.rehearsals.specs.Asked.{AskFor, IsSetAs}
 
 -- behind a life each line is a life or an event

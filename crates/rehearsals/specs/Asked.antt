@@ -1,13 +1,13 @@
 -- The lives that a rehearsal asks for.
 use Rattle.std.specs.Prelude.{◌≡◌, ℕ, List, [], ◌∷◌}
 use Rattle.disk_trait.specs.declared.plan.Plan.TheVariants as plans
-use Rattle.event_runs.specs.declared.event.Event.{Event}
-use Rattle.event_runs.specs.declared.event.Event.TheVariants as events
+use Rattle.event_model.specs.declared.event.Event.{Event}
+use Rattle.event_model.specs.declared.event.Event.TheVariants as events
 use Rattle.life_chain.specs.declared.life.Life.{Life}
-use Rattle.written_values.specs.Words.{AreWords}
-use Rattle.rehearsal_lines.specs.declared.line.LifeLine.{LifeLine}
-use Rattle.rehearsal_lines.specs.declared.line.RehearsalLine.{RehearsalLine}
-use Rattle.rehearsal_lines.specs.declared.line.RehearsalLine.TheVariants as written
+use Rattle.value_syntax.specs.Words.{AreWords}
+use Rattle.rehearsal_syntax.specs.declared.line.LifeLine.{LifeLine}
+use Rattle.rehearsal_syntax.specs.declared.line.RehearsalLine.{RehearsalLine}
+use Rattle.rehearsal_syntax.specs.declared.line.RehearsalLine.TheVariants as written
 
 -- how a life opens, fails and crashes is as its line says
 pub record IsSetAs (nodes : ℕ) (line : LifeLine) (life : Life) : Type 0 where

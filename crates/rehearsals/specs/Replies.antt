@@ -1,8 +1,8 @@
 -- The words of a reply.
 use Rattle.std.specs.Prelude.{ℕ, List, ◌++◌, codes, decimal}
 use Rattle.command_output.specs.Lines.{accepted_text, refused_text}
-use Rattle.event_runs.specs.declared.reply.Reply.{Reply}
-use Rattle.event_runs.specs.declared.reply.Reply.TheVariants as replies
+use Rattle.event_model.specs.declared.reply.Reply.{Reply}
+use Rattle.event_model.specs.declared.reply.Reply.TheVariants as replies
 use Rattle.forwarders.specs.declared.refused.Refused.{Refused as RouteRefused}
 use Rattle.forwarders.specs.declared.refused.Refused.TheVariants as routes
 use Rattle.group_commit.specs.declared.refused.DeskRefused.{DeskRefused}

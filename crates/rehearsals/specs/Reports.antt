@@ -3,11 +3,11 @@ use Rattle.std.specs.Prelude.{ℕ, suc, ◌==◌, List, [], ◌∷◌, ◌++◌,
 use Rattle.std.specs.List.{flat_map}
 use Rattle.std.specs.FinMap.{len}
 use Rattle.command_output.specs.Lines.{line}
-use Rattle.layout_parts.specs.declared.refusals.OpenRefused.{OpenRefused}
-use Rattle.layout_parts.specs.declared.refusals.OpenRefused.TheVariants as opens
+use Rattle.layout_reader.specs.declared.refusals.OpenRefused.{OpenRefused}
+use Rattle.layout_reader.specs.declared.refusals.OpenRefused.TheVariants as opens
 use Rattle.life_chain.specs.declared.report.LifeReport.{LifeReport}
 use Rattle.life_chain.specs.declared.report.LivesReport.{LivesReport}
-use Rattle.event_runs.specs.declared.reply.Reply.{Reply}
+use Rattle.event_model.specs.declared.reply.Reply.{Reply}
 use Rattle.rehearsals.specs.Replies.{words_of}
 
 -- the sessions from this one on that have a last ticket, each with it

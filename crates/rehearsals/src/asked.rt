@@ -1,13 +1,13 @@
 //! The lives that a rehearsal asks for.
 ghost use Rattle.std.specs.Prelude.{◌≡◌, [], IfOk, IfSome, None};
-ghost use Rattle.rehearsal_lines.specs.Grammar.{IsEvent, IsLife, IsRehearsal, StandFrom};
-ghost use Rattle.rehearsal_lines.specs.declared.stage.Stage.{Stage};
+ghost use Rattle.rehearsal_syntax.specs.Grammar.{IsEvent, IsLife, IsRehearsal, StandFrom};
+ghost use Rattle.rehearsal_syntax.specs.declared.stage.Stage.{Stage};
 ghost use Rattle.rehearsals.specs.Asked.{AreAsked, AskFor, IsEventOf, IsOpening, IsSetAs};
 
 use disk_trait::Plan;
-use event_runs::Event;
+use event_model::Event;
 use life_chain::Life;
-use rehearsal_lines::{LifeLine, RehearsalLine};
+use rehearsal_syntax::{LifeLine, RehearsalLine};
 use std::alloc::{AllocError, Global};
 
 /// A device and its lives. The last of them only opens.

@@ -2,7 +2,7 @@
 //!
 //! # What it is
 //!
-//! [`rehearse`] runs the lives of a rehearsal (crate `rehearsal_lines`) on a device in memory, which it makes and formats, by one call of
+//! [`rehearse`] runs the lives of a rehearsal (crate `rehearsal_syntax`) on a device in memory, which it makes and formats, by one call of
 //! `lives_in_memory` of the crate `life_chain` ([`run_lives`]). Behind them comes a life that only opens. The lines are those of the report
 //! of that call.
 //!

@@ -3,7 +3,7 @@ ghost use Rattle.std.specs.Prelude.{◌≡◌, Some};
 ghost use Rattle.rehearsals.specs.Replies.{desk_words, outcome_words, route_words, submit_words, words_of};
 
 use command_output::{AcceptedLine, RefusedLine};
-use event_runs::Reply;
+use event_model::Reply;
 use forwarders::Refused as RouteRefused;
 use group_commit::DeskRefused;
 use intake::{Outcome, SubmitRefused};

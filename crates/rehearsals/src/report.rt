@@ -8,7 +8,7 @@ ghost use Rattle.rehearsals.specs.Reports.{crash_text, held_tickets, not_opened,
 use crate::life_lines::{CrashLine, NotOpenedLine, OpenedLine};
 use crate::lines::ReplyLine;
 use checkpoint::OpenRefused;
-use event_runs::Reply;
+use event_model::Reply;
 use life_chain::{LifeReport, LivesReport};
 use std::alloc::{AllocError, Global};
 

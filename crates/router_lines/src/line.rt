@@ -2,7 +2,7 @@
 ghost use Rattle.std.specs.Prelude.{◌≡◌, ◌≢◌, ◌++◌, MatchOption, ℕ, List};
 ghost use Rattle.router_lines.specs.Lines.{IsAskedIn, IsLaunch, IsHop, load_word};
 
-use packet_bytes::{ADDRESS_SIZE, NoBytes, PACKET_SIZE, Wire, WireRefused, bytes_in};
+use packet_bytes::{ADDRESS_SIZE, HexError, PACKET_SIZE, Wire, WireRefused, bytes_in};
 use schemes::{Address, Packet};
 
 /// What a line asks for.
@@ -49,8 +49,8 @@ fn launch_of(digits: &[u8]) -> Asked
 {
     let bytes = match bytes_in::<ADDRESS_SIZE>(digits) {
         Ok(bytes) => bytes,
-        Err(NoBytes::OtherLength) => return Asked::Unread(WireRefused::BadLength),
-        Err(NoBytes::NoDigits) => return Asked::NotUnderstood,
+        Err(HexError::OtherLength) => return Asked::Unread(WireRefused::BadLength),
+        Err(HexError::NoDigits) => return Asked::NotUnderstood,
     };
     match Address::from_bytes(&bytes) {
         Ok(address) => Asked::Launch(address),
@@ -64,8 +64,8 @@ fn hop_of(digits: &[u8]) -> Asked
 {
     let bytes = match bytes_in::<PACKET_SIZE>(digits) {
         Ok(bytes) => bytes,
-        Err(NoBytes::OtherLength) => return Asked::Unread(WireRefused::BadLength),
-        Err(NoBytes::NoDigits) => return Asked::NotUnderstood,
+        Err(HexError::OtherLength) => return Asked::Unread(WireRefused::BadLength),
+        Err(HexError::NoDigits) => return Asked::NotUnderstood,
     };
     match Packet::from_bytes(&bytes) {
         Ok(packet) => Asked::Hop(packet),

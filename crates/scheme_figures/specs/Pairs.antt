@@ -1,6 +1,6 @@
 -- Pairs of nodes by drawn words.
 use Rattle.std.specs.Prelude.{◌≡◌, ◌≢◌, ℕ, ◌+◌, ◌-◌, ◌*◌, ◌%◌, ◌<◌, cond, nat_lt, List, slice_index}
-use Rattle.written_values.specs.Words.{AreDrawn, first_state}
+use Rattle.value_syntax.specs.Words.{AreDrawn, first_state}
 use Rattle.scheme_figures.specs.Sizes.{each_node}
 
 -- two nodes, of n

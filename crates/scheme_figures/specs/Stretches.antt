@@ -1,7 +1,7 @@
 -- How much longer than the shortest the ways of packets are.
 use Rattle.std.specs.Prelude.{ℕ, ◌-◌, ◌*◌, ◌^◌, ◌==◌, Bool, true, false, cond, List, [], ◌∷◌, min}
 use Rattle.std.specs.List.{flat_map}
-use Rattle.spreads.specs.Decimals.{quotient}
+use Rattle.statistics.specs.Decimals.{quotient}
 use Rattle.scheme_figures.specs.declared.measures.Measured.{Measured}
 use Rattle.scheme_figures.specs.declared.measures.Measured.TheVariants.{Along, Apart}
 

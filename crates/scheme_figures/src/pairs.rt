@@ -3,7 +3,7 @@ ghost use Rattle.std.specs.Prelude.{◌≡◌, ◌≤◌, ◌*◌, ◌↔◌, Al
 ghost use Rattle.scheme_figures.specs.Pairs.{AreDrawnPairs, IsOfTwo, IsPairOf, pair_by, pairs_by};
 
 use std::alloc::{AllocError, Global};
-use written_values::Draws;
+use value_syntax::Draws;
 
 /// The most pairs that are drawn at a time.
 pub const MOST_PAIRS: u16 = 32_767;

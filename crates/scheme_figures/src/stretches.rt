@@ -5,7 +5,7 @@ ghost use Rattle.std.specs.Ordering.{nat_cmp};
 ghost use Rattle.scheme_figures.specs.Stretches.{is_apart, is_exact, stretch_by, stretch_in, stretches_in};
 
 use crate::measures::Measured;
-use spreads::ratio;
+use statistics::ratio;
 use std::alloc::{AllocError, Global};
 
 /// The stretches of many packets.

@@ -5,5 +5,5 @@ pub mod Places
 pub mod Searches
 pub mod PortLemmas
 pub mod Walks
-pub mod NumbersApart
+pub mod KeyColumns
 pub mod PackedEntries

@@ -2,7 +2,7 @@
 use Rattle.std.specs.Prelude.{◌≡◌, ℕ, ◌+◌, ◌*◌, ◌/◌, ◌<◌, ◌≤◌, List, Result, Ok, Err, length, map, slice_index}
 use Rattle.std.specs.declared.vec.Vec.{Vec}
 use Rattle.schemes.specs.Tables.{items_at}
-use Rattle.schemes.specs.declared.numbers_apart.NumbersApart.{NumbersApart}
+use Rattle.schemes.specs.declared.key_columns.KeyColumns.{KeyColumns}
 use Rattle.schemes.specs.declared.parts.Parts.{Parts}
 
 -- these are every eighth of the numbers: those at the places 7, 15, 23 and so on
@@ -15,7 +15,7 @@ abbrev pub AreEighthsOf : {X A B : Type 0} → (X → ℕ) → List (Vec X A) �
 AreEighthsOf key lists all = (x : ℕ) → AreEighths (map key (items_at lists x)) (items_at all x)
 
 -- these are the roots of every eighth entry of each node
-abbrev pub AreApart : Parts → NumbersApart → Type 0
+abbrev pub AreApart : Parts → KeyColumns → Type 0
 AreApart p a = AreEighthsOf (λ e. e.root) p.entries.items a.roots.items
 
 -- the number lies at low or later and before high, if it's there

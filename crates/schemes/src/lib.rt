@@ -21,8 +21,8 @@
 #![tactic(auto)]
 
 mod entry;
+mod key_columns;
 mod laws;
-mod numbers_apart;
 mod packet;
 mod parts;
 mod ports;

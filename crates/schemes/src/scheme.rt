@@ -6,7 +6,7 @@ ghost use Rattle.schemes.specs.Service.{address_given, decide as packet_given, h
 ghost use Rattle.schemes.specs.Tables.{AreAscending, RefersTo, entries_at, first_entry, first_listed, directory_at, nodes_of, roots_of, tables};
 
 use crate::entry::Entry;
-use crate::numbers_apart::NumbersApart;
+use crate::key_columns::KeyColumns;
 use crate::packet::{Address, Home, Move, Packet, Refused};
 use crate::parts::{Listed, Near, Parts};
 use crate::rows::{RowsAt, move_from, packet_from};
@@ -20,7 +20,7 @@ use std::marker::Model;
 #[derive(Drop)]
 pub struct Scheme {
     parts: Parts,
-    apart: Option<NumbersApart>,
+    apart: Option<KeyColumns>,
     ascending: bool,
 }
 
@@ -55,7 +55,7 @@ impl Scheme {
         ensures { IfOk result (λ scheme. scheme ≡ parts) }
     {
         let mut scheme = Scheme::assemble(parts);
-        scheme.apart = Some(NumbersApart::of(alloc, &scheme.parts)?);
+        scheme.apart = Some(KeyColumns::of(alloc, &scheme.parts)?);
         Ok(scheme)
     }
 

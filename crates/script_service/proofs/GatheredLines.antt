@@ -11,8 +11,8 @@ use Rattle.command_output.specs.declared.fault.Fault.{Fault}
 use Rattle.command_output.specs.declared.fault.Fault.TheVariants as told
 use Rattle.line_exchange.specs.Reads.{AreOfInput}
 use Rattle.line_exchange.specs.declared.answer_writer.AnswerWriter.{Ghosts}
-use Rattle.written_values.specs.declared.line.ScriptLine.{ScriptLine}
-use Rattle.written_values.specs.declared.line.ScriptLine.TheVariants.{Edit, Route}
+use Rattle.value_syntax.specs.declared.line.ScriptLine.{ScriptLine}
+use Rattle.value_syntax.specs.declared.line.ScriptLine.TheVariants.{Edit, Route}
 use Rattle.live_lines.specs.declared.asked.Asked.{Asked}
 use Rattle.live_lines.specs.declared.answer.Answer.{Answer}
 use Rattle.live_lines.specs.declared.answer.Answer.TheVariants.{Settled, AlreadyIn, RefusedBefore, OldTicket, Way}

@@ -3,9 +3,9 @@ ghost use Rattle.std.specs.Prelude.{◌≡◌, ◌≢◌, ◌≤◌, ◌⊎◌, 
 ghost use Rattle.std.specs.Io.KnownBytes.{Appends};
 ghost use Rattle.command_output.specs.declared.fault.Fault.{Fault};
 ghost use Rattle.command_output.specs.Faults.{status_of};
-ghost use Rattle.written_values.specs.Scripts.{AreOfSessions};
-ghost use Rattle.service_threads.specs.Config.{IsServiceConfig};
-ghost use Rattle.service_threads.specs.Kept.{IsLeftBy};
+ghost use Rattle.value_syntax.specs.Scripts.{AreOfSessions};
+ghost use Rattle.committer_thread.specs.Config.{IsServiceConfig};
+ghost use Rattle.committer_thread.specs.Kept.{IsLeftBy};
 ghost use Rattle.live_service.specs.ServeEnds.{IsServeEnd};
 ghost use Rattle.line_exchange.specs.Gathers.{BreaksOff, IsServed};
 ghost use Rattle.line_exchange.specs.declared.served.Served.{Served};
@@ -24,13 +24,13 @@ use live_service::{
 };
 use new_devices::NoDevices;
 use put_lines::BlankBook;
-use service_workers::Gate;
-use settled_lists::Builds;
+use request_lists::Builds;
+use service_actors::Gate;
 use std::marker::Brand;
 use std::sync::Wait;
 use std::thread::Threads;
 use table_files::{TableFile, TableFiles};
-use written_values::ScriptLine;
+use value_syntax::ScriptLine;
 
 // Where no table is put: no line of a script asks for one.
 #[derive(Clone, Copy, Drop)]
@@ -168,6 +168,7 @@ where
         words,
         config,
     } = device;
+    // The disk's bytes stand for one state at most: the one that is opened.
     standing_law();
     let (store, source) = match open_device(env.alloc, disk, &words) {
         Ok(opened) => opened,

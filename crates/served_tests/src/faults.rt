@@ -1,11 +1,11 @@
 // What ends a run without its lines, and outputs that refuse.
 use crate::helpers::{Asked, fresh, got, holds, reopened, run_plain, same, text_of};
 use disk_trait::{CrashDisk, MemDisk};
-use stand_ins::NarrowWriter;
 use std::alloc::Global;
 use std::process::Abort;
 use std::sync::Wait;
 use std::thread::Threads;
+use test_doubles::NarrowWriter;
 
 const PATH: Asked<'static> = Asked {
     words: "none",

@@ -1,12 +1,12 @@
 // Routes that are launched or carried on just where the device holds a commit.
 use crate::helpers::{Asked, fresh, got, run, same, text_of};
-use service_threads::Gate;
-use stand_ins::{BeforeSync, HookedDisk, comes_within};
+use committer_thread::Gate;
 use std::alloc::Global;
 use std::process::Abort;
 use std::sync::atomic::{AtomicBool, AtomicU64, Ordering};
 use std::sync::{Arc, Wait};
 use std::thread::Threads;
+use test_doubles::{BeforeSync, HookedDisk, comes_within};
 
 // How long each waits for the other at most.
 const TURNS: usize = 1_000_000;

@@ -1,10 +1,10 @@
 // What the tests share: devices, and scripts that are run on them.
 use checkpoint::Store;
 use command_output::WatchedWriter;
+use committer_thread::{Gate, OpenGate, ServiceConfig};
 use disk_trait::{Disk, MemDisk};
 use live_service::{Env, ServedDevice};
 use script_service::serve_on;
-use service_threads::{Gate, OpenGate, ServiceConfig};
 use std::alloc::Global;
 use std::fmt::Debug;
 use std::io::Write;
@@ -12,7 +12,7 @@ use std::process::Abort;
 use std::str;
 use std::sync::Wait;
 use std::thread::Threads;
-use written_values::{landmark_words, script};
+use value_syntax::{landmark_words, script};
 
 // The value of an answer that has to have one.
 pub(crate) fn got<T, E: Drop>(rt: &impl Abort, answer: Result<T, E>) -> T {
@@ -34,12 +34,12 @@ pub(crate) fn text_of<'a>(rt: &impl Abort, bytes: &'a [u8]) -> &'a str {
 
 /// A fresh device.
 pub(crate) fn fresh(rt: &impl Abort, alloc: Global, nodes: u16) -> MemDisk {
-    got(rt, stand_ins::formatted(alloc, nodes))
+    got(rt, test_doubles::formatted(alloc, nodes))
 }
 
 /// The store of a disk.
 pub(crate) fn reopened<D: Disk + Drop>(rt: &impl Abort, alloc: Global, disk: D) -> Store<D> {
-    got(rt, stand_ins::opened(alloc, disk))
+    got(rt, test_doubles::opened(alloc, disk))
 }
 
 /// How many editors, forwarders and places in the queue there are.

@@ -107,6 +107,7 @@ fn trail_in(
     ensures trail { IfOk result (λ found. MatchOption found (IsApart graph.now.edges from to)
         (λ trail. IsTrailBetween graph.now landmarks.now from to trail)) }
 {
+    // It tells that the graph is sound.
     let _sound = graph.nodes();
     if !find_tree(workspace, graph, landmarks, nearest, from, to)? {
         return Ok(None);

@@ -34,6 +34,7 @@ fn find_own_tree(
     ensures tree { IfOk result (IsFoundFor graph.now.edges landmarks.now from to workspace.new.members) }
     ensures other { IfOk result (λ own. own ≡ false → IsInOwnTree graph.now.edges landmarks.now from to → ⊥) }
 {
+    // It tells that the graph is sound.
     let _sound = graph.nodes();
     if landmarks.holds(from) {
         return Ok(false);

@@ -13,6 +13,7 @@ fn hop(graph: &Graph, at: u16, next: u16) -> (u16, u32)
     ensures port { over_port graph.now at result.0 ≡ Some next }
     ensures weight { weight_in graph.now at next ≡ Some result.1 }
 {
+    // It tells that the graph is sound.
     let _sound = graph.nodes();
     let Some(weight) = graph.weight(at, next) else {
         unreachable!()

@@ -5,10 +5,10 @@ use checkpoint::{
 use disk_trait::{CrashDisk, Disk, MemDisk, Plan};
 use graph_edits::{Change, EditRefused, Graph, Op, Overlay};
 use requests::{Request, SESSIONS};
-use stand_ins::CRASH_WORDS;
 use std::alloc::{AllocError, Global};
 use std::fmt::Debug;
 use std::process::Abort;
+use test_doubles::CRASH_WORDS;
 
 mod backups;
 mod commits;

@@ -1,9 +1,9 @@
 // The threads, the places and the rounds that words ask of a service, which no line shows. Other words are in conformance/options.txt and words.txt.
 // In a line of words a bar stands between each two.
 use crate::helpers::{got, same};
-use command_line::{Task, understood};
+use command_line::{Task, parse_task};
 use std::alloc::{AllocError, Global};
-use written_values::LandmarkWords;
+use value_syntax::LandmarkWords;
 
 fn words_of(alloc: Global, line: &str) -> Result<Vec<&str>, AllocError> {
     let mut words = Vec::new(alloc);
@@ -53,7 +53,7 @@ fn services(rt: HostRuntime) {
             words: LandmarkWords::Greatest,
         };
         let words = got(rt, words_of(alloc, line));
-        let found = understood(alloc, &words) == Ok(task);
+        let found = parse_task(alloc, &words) == Ok(task);
         same(rt, found, true, line);
     }
 }

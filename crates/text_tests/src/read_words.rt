@@ -3,7 +3,7 @@ use crate::helpers::{got, same};
 use graph_edits::Op;
 use std::alloc::Global;
 use std::process::Abort;
-use written_values::{LandmarkWords, landmark_words, node, number, op, script};
+use value_syntax::{LandmarkWords, landmark_words, node, number, op, script};
 
 // Ops as far as their numbers go, and past that.
 const OPS: [(&str, Option<Op>); 5] = [

@@ -2,7 +2,7 @@
 use Rattle.std.specs.Prelude.{◌≡◌, ◌==◌, ◌≤◌, ◌-◌, ◌⊎◌, ⊤, ℕ, List, [], ◌∷◌, IsTrue, length, take, drop, slice_index}
 use Rattle.std.specs.List.{starts_with}
 use Rattle.std.specs.Global.{Vec}
-use Rattle.written_values.specs.Scripts.{lines_of}
+use Rattle.value_syntax.specs.Scripts.{lines_of}
 use Rattle.transcripts.specs.declared.step.Came.{Came}
 use Rattle.transcripts.specs.declared.step.Line.{Line}
 use Rattle.transcripts.specs.declared.step.Line.TheVariants.{Whole, Begun}

@@ -1,11 +1,11 @@
 // What came, compared with what should come.
 ghost use Rattle.std.specs.Prelude.{◌≡◌, ◌↔◌, IfOk, IsTrue};
-ghost use Rattle.written_values.specs.Reading.{texts_of};
+ghost use Rattle.value_syntax.specs.Reading.{texts_of};
 ghost use Rattle.transcripts.specs.Matching.{Agrees, EndsLine, Fits, IsLike, IsOneOf, IsOutput, IsRow, Matches};
 
 use crate::step::{Came, Line, Step, Want};
 use std::alloc::{AllocError, Global};
-use written_values::lines_in;
+use value_syntax::lines_in;
 
 // Whether a line is so.
 fn is_like(line: &Line<'_>, came: &str) -> bool

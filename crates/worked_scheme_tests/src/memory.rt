@@ -6,7 +6,7 @@ use rand_core::{Rng, SeedableRng};
 use rand_xoshiro::Xoshiro256PlusPlus;
 use sample_networks::PlainGraph;
 use std::alloc::Global;
-use written_values::Draws;
+use value_syntax::Draws;
 
 #[test]
 fn builds_after_a_want_of_memory(rt: HostRuntime) {

@@ -3,7 +3,7 @@ use super::*;
 use crate::tests::slow_reader::{State, read};
 
 fn desk_of(rt: &impl Abort, alloc: Global, disk: MemDisk) -> Desk<MemDisk> {
-    Desk::new(stand_ins::opened(alloc, disk).ok().expect(rt, "a store"))
+    Desk::new(test_doubles::opened(alloc, disk).ok().expect(rt, "a store"))
 }
 
 // Gives requests to a desk and commits them as one group.
@@ -42,7 +42,7 @@ const SECOND_SINCE: [(u8, u64, Op); 2] = [
 
 // A device for six nodes: a group of three requests, a roll, and groups of three and two.
 fn rolled(rt: &impl Abort, alloc: Global) -> MemDisk {
-    let mut desk = desk_of(rt, alloc, got(rt, stand_ins::formatted(alloc, 6)));
+    let mut desk = desk_of(rt, alloc, got(rt, test_doubles::formatted(alloc, 6)));
     commits(rt, alloc, &mut desk, &BEFORE);
     let mut store = desk.into_store();
     got(rt, store.roll(alloc));
@@ -94,7 +94,7 @@ fn opens(rt: &impl Abort, alloc: Global, disk: MemDisk, bytes: &[u8]) -> (bool, 
 }
 
 fn put(rt: &impl Abort, disk: &mut MemDisk, at: usize, byte: u8) {
-    got(rt, stand_ins::put(disk, at, &[byte]));
+    got(rt, test_doubles::put(disk, at, &[byte]));
 }
 
 // The header; the two heads, the second one with its tickets and three edges; the front of the first journal; and the second journal:

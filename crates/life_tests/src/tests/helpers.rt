@@ -81,7 +81,7 @@ pub(super) fn submit(rt: &impl Abort, session: u8, ticket: u64, ops: &[Op]) -> E
 
 // A device for so many nodes.
 pub(super) fn formatted(rt: &impl Abort, alloc: Global, nodes: u16) -> MemDisk {
-    got(rt, stand_ins::formatted(alloc, nodes))
+    got(rt, test_doubles::formatted(alloc, nodes))
 }
 
 fn event(rt: &impl Abort, step: &Step) -> Event {

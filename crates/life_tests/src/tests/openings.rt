@@ -14,7 +14,7 @@ fn refuses_what_is_no_store(rt: HostRuntime) {
     let alloc = rt.alloc();
     let rt = &rt;
     for len in [9, DEVICE_LEN] {
-        let disk = got(rt, stand_ins::blank(alloc, len));
+        let disk = got(rt, test_doubles::blank(alloc, len));
         refused(rt, alloc, disk, OpenRefused::NotFormatted);
     }
 }

@@ -17,13 +17,13 @@ fn made(
     requires sessions { (1 ≤ sessions) × (sessions ≤ 64) }
     requires capacity { (1 ≤ capacity) × (capacity ≤ 64) }
 {
-    let Ok(mut disk) = stand_ins::formatted(alloc, nodes) else {
+    let Ok(mut disk) = test_doubles::formatted(alloc, nodes) else {
         return Err(AllocError);
     };
-    if stand_ins::put(&mut disk, COUNT, &count.to_be_bytes()).is_err() {
+    if test_doubles::put(&mut disk, COUNT, &count.to_be_bytes()).is_err() {
         return Err(AllocError);
     }
-    let Ok(store) = stand_ins::opened(alloc, disk) else {
+    let Ok(store) = test_doubles::opened(alloc, disk) else {
         return Err(AllocError);
     };
     World::new(alloc, Desk::new(store), sessions, capacity)

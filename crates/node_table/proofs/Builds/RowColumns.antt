@@ -335,7 +335,7 @@ module _ (m : Network) (sound : IsSound m) (r : ℕ) (r_in : r < m.nodes) (ks : 
       let k = members_in m ks x (is_in_of (map (λ (a : Member). a.node) (map (member_of m) ks)) x among) in
       subst (λ z. z < m.nodes) k.1.1 (reached_inside m sound r r_in h.0 ks h.1.0 h.1.1 k.0 k.1.0)
 
-  pub numbers_apart : (ns : List NumberedMember) → IsPermutation (map (λ (a : Member). a.node) (map (member_of m) ks)) (nodes_numbered ns) → IsDistinct nat_eq (nodes_numbered ns)
-  numbers_apart ns same =
+  pub key_columns : (ns : List NumberedMember) → IsPermutation (map (λ (a : Member). a.node) (map (member_of m) ks)) (nodes_numbered ns) → IsDistinct nat_eq (nodes_numbered ns)
+  key_columns ns same =
       IsDistinct-IsPermutation nat_eq flips (map (λ (a : Member). a.node) (map (member_of m) ks)) (nodes_numbered ns) same
       (distinct_nodes (map (member_of m) ks) (distinct_members m ks h.1.0.ascending (same_distance m sound r r_in h.0 ks h.1.0 h.1.1)))

@@ -19,7 +19,7 @@ struct FailingDevices {
 fn failing(alloc: Global, len: usize, call: u64) -> Result<MemDisk, AllocError>
     ensures { IfOk result (λ disk. IsBlank len (mem_view disk)) }
 {
-    let mut disk = stand_ins::blank(alloc, len)?;
+    let mut disk = test_doubles::blank(alloc, len)?;
     disk.fail_at(call);
     Ok(disk)
 }
@@ -80,7 +80,7 @@ fn given_back(rt: &impl Abort, devices: &mut FailingDevices) -> MemDisk {
 
 // Sees that this is left of a backup: the whole, where it is to be, or else the whole or no device.
 fn is_left(rt: &impl Abort, alloc: Global, disk: MemDisk, is_whole: bool) {
-    match stand_ins::opened(alloc, disk) {
+    match test_doubles::opened(alloc, disk) {
         Ok(store) => ends_whole(rt, store),
         Err((refused, _disk)) => same(rt, (is_whole, (refused as u8) < 4), (false, true), "none"),
     }

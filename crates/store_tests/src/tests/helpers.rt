@@ -42,17 +42,17 @@ pub(super) fn same<T: Copy + PartialEq + Debug>(rt: &impl Abort, found: T, want:
 
 // A device of so many zeros.
 pub(super) fn blank(rt: &impl Abort, alloc: Global, len: usize) -> MemDisk {
-    got(rt, stand_ins::blank(alloc, len))
+    got(rt, test_doubles::blank(alloc, len))
 }
 
 // A device for so many nodes.
 pub(super) fn formatted(rt: &impl Abort, alloc: Global, nodes: u16) -> MemDisk {
-    got(rt, stand_ins::formatted(alloc, nodes))
+    got(rt, test_doubles::formatted(alloc, nodes))
 }
 
 // The store of a device.
 pub(super) fn opened(rt: &impl Abort, alloc: Global, disk: MemDisk) -> Store<MemDisk> {
-    got(rt, stand_ins::opened(alloc, disk))
+    got(rt, test_doubles::opened(alloc, disk))
 }
 
 // Sees why a device can't be opened, and gives it back.
@@ -63,7 +63,7 @@ pub(super) fn is_refused(
     want: OpenRefused,
     name: &str,
 ) -> MemDisk {
-    match stand_ins::opened(alloc, disk) {
+    match test_doubles::opened(alloc, disk) {
         Ok(_) => panic!(rt; "{name}: opened"),
         Err((refused, disk)) => {
             same(rt, refused, want, name);
@@ -335,7 +335,7 @@ pub(super) fn reopened(rt: &impl Abort, alloc: Global, store: Store<MemDisk>) ->
 
 // Reads bytes of a device.
 fn reads(rt: &impl Abort, disk: &mut MemDisk, at: usize, bytes: &mut [u8]) {
-    got(rt, stand_ins::read_at(disk, at, bytes));
+    got(rt, test_doubles::read_at(disk, at, bytes));
 }
 
 pub(super) fn bytes<const N: usize>(rt: &impl Abort, disk: &mut MemDisk, at: usize) -> [u8; N] {
@@ -346,12 +346,12 @@ pub(super) fn bytes<const N: usize>(rt: &impl Abort, disk: &mut MemDisk, at: usi
 
 // Puts bytes on a device.
 pub(super) fn put(rt: &impl Abort, disk: &mut MemDisk, at: usize, bytes: &[u8]) {
-    got(rt, stand_ins::put(disk, at, bytes));
+    got(rt, test_doubles::put(disk, at, bytes));
 }
 
 // Puts the bytes that a text spells.
 pub(super) fn put_text(rt: &impl Abort, disk: &mut MemDisk, at: usize, text: &str) {
-    got(rt, stand_ins::put_spelled(disk, at, text));
+    got(rt, test_doubles::put_spelled(disk, at, text));
 }
 
 // A device with one byte changed.
@@ -363,7 +363,7 @@ pub(super) fn spoilt(rt: &impl Abort, disk: MemDisk, at: usize, byte: u8) -> Mem
 
 // Sees that a device has the bytes that a text spells.
 pub(super) fn shows(rt: &impl Abort, disk: &mut MemDisk, at: usize, text: &str) {
-    let found = got(rt, stand_ins::has_spelled(disk, at, text));
+    let found = got(rt, test_doubles::has_spelled(disk, at, text));
     same(rt, (at, found), (at, true), text);
 }
 

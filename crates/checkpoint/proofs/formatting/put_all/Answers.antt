@@ -3,7 +3,7 @@ use Rattle.disk_trait.specs.Disk.{only_read}
 use Rattle.layout_2.specs.Layout.{device_len, slot_start}
 use Rattle.layout_2.specs.State.{first_state}
 use Rattle.layout_2.specs.Standing.{StandsFor}
-use Rattle.layout_parts.proofs.ReadLemmas.{still}
+use Rattle.layout_reader.proofs.ReadLemmas.{still}
 use Rattle.checkpoint.specs.Formatting.{with_gates, formatted}
 use Rattle.checkpoint.proofs.FormatLemmas.{fresh_stands}
 use Rattle.checkpoint.proofs.formatting.put_all.Goals as goal

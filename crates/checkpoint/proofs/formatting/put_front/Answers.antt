@@ -1,7 +1,7 @@
 use Rattle.std.proofs.Common.{◌∙◌, ◌≡◌, arith, ap, sym, subst, length}
 use Rattle.disk_trait.specs.Disk.{Torn, bytes_at}
 use Rattle.disk_trait.specs.Places.{below}
-use Rattle.layout_parts.proofs.ReadLemmas.{still}
+use Rattle.layout_reader.proofs.ReadLemmas.{still}
 use Rattle.layout_2.specs.Layout.{slot_start, header}
 use Rattle.checkpoint.specs.Formatting.{first_slot, with_front}
 use Rattle.checkpoint.proofs.FormatLemmas.{written_twice, length_first}

@@ -1,6 +1,6 @@
 use Rattle.std.proofs.Common.{◌∙◌, ap, sym, refl, arith, List, [], ◌∷◌, ℕ, get_or}
 use Rattle.disk_trait.specs.Places.{below, byte_below, byte_of}
-use Rattle.layout_parts.proofs.ReadLemmas.{still}
+use Rattle.layout_reader.proofs.ReadLemmas.{still}
 use Rattle.layout_2.specs.Layout.{journal_start, slot_start}
 use Rattle.checkpoint.specs.Formatting.{with_gates}
 use Rattle.checkpoint.proofs.FormatLemmas.{written_twice}

@@ -1,5 +1,5 @@
 use Rattle.std.proofs.Common.{◌++◌, ◌∙◌, ap, ℕ, List}
-use Rattle.layout_parts.specs.Heads.{head_text}
+use Rattle.layout_reader.specs.Heads.{head_text}
 use Rattle.checkpoint.proofs.roll.put_head.Goals as goal
 
 pub returns : goal.returns

@@ -1,8 +1,8 @@
 use Rattle.std.proofs.Common.{◌++◌, ◌∙◌, ap, ℕ, List, length, append_assoc}
 use Rattle.std.specs.FinMap.{len, len-entries, entries}
 use Rattle.layout_2.specs.State.{State, state_with, tickets_text}
-use Rattle.layout_parts.specs.EdgeTexts.{edges_text}
-use Rattle.layout_parts.specs.Heads.{head_text}
+use Rattle.layout_reader.specs.EdgeTexts.{edges_text}
+use Rattle.layout_reader.specs.Heads.{head_text}
 use Rattle.checkpoint.proofs.Rolls.{padded}
 use Rattle.checkpoint.proofs.roll.text_of.Goals as goal
 

@@ -1,5 +1,5 @@
 use Rattle.std.proofs.Common.{◌∙◌}
-use Rattle.layout_parts.proofs.ReadLemmas.{still}
+use Rattle.layout_reader.proofs.ReadLemmas.{still}
 use Rattle.checkpoint.proofs.Wholes.{while_shutting, while_heading, while_publishing, all_written, ok_with, writing_on}
 use Rattle.checkpoint.proofs.whole.put_whole.Goals as goal
 

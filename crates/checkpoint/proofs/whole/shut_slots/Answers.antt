@@ -1,4 +1,4 @@
-use Rattle.layout_parts.proofs.ReadLemmas.{still}
+use Rattle.layout_reader.proofs.ReadLemmas.{still}
 use Rattle.checkpoint.proofs.Wholes.{first_shut, both_shut, all_shut}
 use Rattle.checkpoint.proofs.whole.shut_slots.Goals as goal
 

@@ -1,6 +1,6 @@
 use Rattle.std.proofs.Common.{◌∙◌, subst}
 use Rattle.disk_trait.specs.Disk.{weaker}
-use Rattle.layout_parts.proofs.ReadLemmas.{still}
+use Rattle.layout_reader.proofs.ReadLemmas.{still}
 use Rattle.checkpoint.specs.Whole.{IsWriting, IsWritten, StandsForNoneOr}
 use Rattle.layout_2.specs.State.{IsLawful, state_with}
 use Rattle.checkpoint.proofs.Wholes.{holds_fresh, writing_stands}

@@ -1,5 +1,5 @@
 use Rattle.std.proofs.Common.{rules, inl, inr, []}
-use Rattle.written_values.specs.declared.words.LandmarkWords.TheVariants.{Greatest}
+use Rattle.value_syntax.specs.declared.words.LandmarkWords.TheVariants.{Greatest}
 use Rattle.command_line.specs.Fields.{Landmarks, Ops}
 use Rattle.command_line.specs.Asked.{AreOpsGiven, AreWordsGiven, Lacks}
 use Rattle.command_line.specs.Readings.{rows_in}

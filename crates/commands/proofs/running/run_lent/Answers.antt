@@ -7,25 +7,25 @@ use Rattle.commands.proofs.Serving.{may_run}
 use Rattle.commands.proofs.ToldRuns.{asked_so, refused_for, refused_so}
 use Rattle.commands.proofs.running.run_lent.Goals as goal
 
-pub run_understood-requires-after_bounds : goal.run_understood-requires-after_bounds
-run_understood-requires-after_bounds g c κs within = may_run (texts c.args.words.now) c.in-Ok.task c.in-Ok.ensures.asked
+pub run_parsed-requires-after_bounds : goal.run_parsed-requires-after_bounds
+run_parsed-requires-after_bounds g c κs within = may_run (texts c.args.words.now) c.in-Ok.task c.in-Ok.ensures.asked
 
 pub returns-in-Ok-clause-runs : goal.returns-in-Ok-clause-runs
 returns-in-Ok-clause-runs g c =
-    let by = c.run_understood.ensures.runs in
+    let by = c.run_parsed.ensures.runs in
     let asked = c.in-Ok.ensures.asked in
     record {
-      outcome = asked_so g.P.Devices.Device.Disk (HasDone g.P.Devices.Devices.opened g.P.Devices.Devices.events c.args.at.devices.now c.run_understood.new.at.0) (PutBy g.P.Tables.TableFiles.puts c.args.at.tables.now c.run_understood.new.at.1.1.0) (texts c.args.words.now) c.in-Ok.task (g.S.Read.remaining c.args.streams.script.now)
-          (g.O.Write.contents c.args.streams.out.now) (g.O.Write.contents c.run_understood.new.streams.1.0) (g.E.FaultWriter.contents c.args.streams.err.now) (g.E.FaultWriter.contents c.run_understood.new.streams.1.1.0) c.run_understood.result asked by.outcome;
+      outcome = asked_so g.P.Devices.Device.Disk (HasDone g.P.Devices.Devices.opened g.P.Devices.Devices.events c.args.at.devices.now c.run_parsed.new.at.0) (PutBy g.P.Tables.TableFiles.puts c.args.at.tables.now c.run_parsed.new.at.1.1.0) (texts c.args.words.now) c.in-Ok.task (g.S.Read.remaining c.args.streams.script.now)
+          (g.O.Write.contents c.args.streams.out.now) (g.O.Write.contents c.run_parsed.new.streams.1.0) (g.E.FaultWriter.contents c.args.streams.err.now) (g.E.FaultWriter.contents c.run_parsed.new.streams.1.1.0) c.run_parsed.result asked by.outcome;
       untouched = λ other. by.untouched (λ live. other (c.in-Ok.task, asked, live));
       unread = λ other. by.unread (λ service. other (c.in-Ok.task, asked, service));
     }
 
 pub returns-in-Ok-clause-unput : goal.returns-in-Ok-clause-unput
-returns-in-Ok-clause-unput g c other batch = c.run_understood.ensures.unput (λ tables. other (c.in-Ok.task, c.in-Ok.ensures.asked, tables)) (λ live. batch (c.in-Ok.task, c.in-Ok.ensures.asked, live))
+returns-in-Ok-clause-unput g c other batch = c.run_parsed.ensures.unput (λ tables. other (c.in-Ok.task, c.in-Ok.ensures.asked, tables)) (λ live. batch (c.in-Ok.task, c.in-Ok.ensures.asked, live))
 
 pub returns-in-Ok-clause-unmade : goal.returns-in-Ok-clause-unmade
-returns-in-Ok-clause-unmade g c batch = c.run_understood.ensures.unmade (λ live. batch (c.in-Ok.task, c.in-Ok.ensures.asked, live))
+returns-in-Ok-clause-unmade g c batch = c.run_parsed.ensures.unmade (λ live. batch (c.in-Ok.task, c.in-Ok.ensures.asked, live))
 
 pub returns-in-Err-clause-runs : goal.returns-in-Err-clause-runs
 returns-in-Err-clause-runs g c =

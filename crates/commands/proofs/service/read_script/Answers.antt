@@ -1,7 +1,7 @@
 use Rattle.std.proofs.Common.{arith, ◌≡◌, subst, List, ℕ, All, IsSomeAnd}
 use Rattle.std.specs.Prelude.{IfSome}
-use Rattle.written_values.specs.Scripts.{IsWritten, MayStand}
-use Rattle.written_values.specs.declared.line.ScriptLine.{ScriptLine}
+use Rattle.value_syntax.specs.Scripts.{IsWritten, MayStand}
+use Rattle.value_syntax.specs.declared.line.ScriptLine.{ScriptLine}
 use Rattle.commands.proofs.ScriptTexts.{no_lines, no_text, read_bytes}
 use Rattle.commands.proofs.service.read_script.Goals as goal
 

@@ -1,6 +1,6 @@
 use Rattle.std.proofs.Common.{ℕ, List, map}
 use Rattle.std.proofs.lemmas.Result.{IfErr-at_err, IfOk-at_ok}
-use Rattle.written_values.specs.Scripts.{lines_of}
+use Rattle.value_syntax.specs.Scripts.{lines_of}
 use Rattle.edge_lists.specs.Rows.{IsFirstRefused, Say, row_of}
 use Rattle.edge_lists.proofs.RowLemmas.{carried}
 use Rattle.edge_lists.proofs.reading.read_rows.Goals as goal

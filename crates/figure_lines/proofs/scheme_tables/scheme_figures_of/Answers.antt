@@ -1,7 +1,7 @@
 use Rattle.std.proofs.Common.{◌≡◌, ◌∙◌, ap, codes, map, subst, ◌++◌}
 use Rattle.schemes.specs.declared.parts.Parts.{Parts}
 use Rattle.scheme_figures.specs.Sizes.{directory_sizes, entry_sizes}
-use Rattle.spreads.specs.Spreads.{IsSpread}
+use Rattle.statistics.specs.Spreads.{IsSpread}
 use Rattle.figure_lines.specs.Figures.{said}
 use Rattle.figure_lines.specs.Schemes.{full_figures, length_figures, node_figures, spread_figures, table_sizes}
 use Rattle.figure_lines.proofs.Pushes.{Behind, pushed_all, pushed_alone}

@@ -2,7 +2,7 @@ use Rattle.std.proofs.Common.{◌≡◌, map, take, List, [], ◌∷◌, ◌++�
 use Rattle.std.proofs.lemmas.List.{take_more, map-append}
 use Rattle.generations.specs.declared.posting.Posting.{Posting}
 use Rattle.generations.specs.Notices.{notice_of}
-use Rattle.event_runs.specs.Answers.{newest_number}
+use Rattle.event_model.specs.Answers.{newest_number}
 use Rattle.interleave.specs.Stores.{newer}
 use Rattle.interleave.proofs.Newest.{newest_push}
 use Rattle.interleave.proofs.stored.newest_in.Goals as goal

@@ -1,6 +1,6 @@
 use Rattle.std.proofs.Common.{◌≡◌, take, map}
 use Rattle.generations.specs.Notices.{notice_of}
-use Rattle.event_runs.specs.Answers.{newest_number}
+use Rattle.event_model.specs.Answers.{newest_number}
 use Rattle.interleave.proofs.stored.newest_in.Given as goal
 
 abbrev pub invariant-loop-posting : goal.invariant-loop-posting

@@ -6,15 +6,15 @@ use Rattle.layout_2.specs.State.{State}
 use Rattle.checkpoint.specs.StoreWords.{state_of, view_of, is_down, disk_of, stands_now}
 use Rattle.generations.specs.Notices.{notice_of}
 use Rattle.group_commit.specs.DeskWords.{store_of, due_of}
-use Rattle.run_laws.specs.History.{Lists, begun as none_yet}
-use Rattle.run_laws.specs.Runs.{IsRun}
-use Rattle.event_runs.specs.declared.event.Event.{Event}
-use Rattle.event_runs.specs.Machines.{Machine, begun, fresh_session}
-use Rattle.event_runs.specs.Answers.{RebuildAnswers}
-use Rattle.run_laws.specs.Listed.{IsListed}
-use Rattle.run_laws.specs.OneLife.{history_of}
-use Rattle.run_laws.specs.Ways.{AreOnWay}
-use Rattle.run_laws.specs.Replies.{RunRoutes}
+use Rattle.event_laws.specs.History.{Lists, begun as none_yet}
+use Rattle.event_laws.specs.Runs.{IsRun}
+use Rattle.event_model.specs.declared.event.Event.{Event}
+use Rattle.event_model.specs.Machines.{Machine, begun, fresh_session}
+use Rattle.event_model.specs.Answers.{RebuildAnswers}
+use Rattle.event_laws.specs.Listed.{IsListed}
+use Rattle.event_laws.specs.OneLife.{history_of}
+use Rattle.event_laws.specs.Ways.{AreOnWay}
+use Rattle.event_laws.specs.Replies.{RunRoutes}
 use Rattle.interleave.specs.declared.stored.Stored.{Stored}
 use Rattle.interleave.specs.Stores.{machine_with}
 use Rattle.interleave.specs.WorldWords.{lists_of, machine_of, world_view, world_store, desk_of}

@@ -1,4 +1,4 @@
-use Rattle.service_workers.specs.Edited.{IsSameEditor}
+use Rattle.service_actors.specs.Edited.{IsSameEditor}
 use Rattle.line_workers.specs.Submits.{HasNoted}
 use Rattle.line_workers.proofs.editing.answer_each.Given as goal
 

@@ -1,7 +1,7 @@
 use Rattle.std.proofs.Common.{rules, ◌≡◌, All, Bor, IfSome, List, ℕ, arith, get_or, refl, subst}
 use Rattle.std.proofs.lemmas.List.{take_all}
 use Rattle.std.proofs.lemmas.List.Elements.{All-map, All-more}
-use Rattle.written_values.specs.OpText.{Fits, op_text}
+use Rattle.value_syntax.specs.OpText.{Fits, op_text}
 use Rattle.live_lines.specs.Lines.{IsOp}
 use Rattle.live_lines.proofs.Asking.{nowhere, no_op, part_at}
 use Rattle.live_lines.proofs.asked.are_ops.Goals as goal

@@ -1,7 +1,7 @@
 use Rattle.std.proofs.Common.{◌≡◌, ◌∙◌, ℕ, List, Bor, ap, subst}
 use Rattle.std.specs.Prelude.{IfOk}
-use Rattle.written_values.specs.Reading.{texts_of}
-use Rattle.written_values.specs.Scripts.{words_of}
+use Rattle.value_syntax.specs.Reading.{texts_of}
+use Rattle.value_syntax.specs.Scripts.{words_of}
 use Rattle.live_lines.specs.Lines.{AsksJust, IsAskedIn, WordsAsk}
 use Rattle.live_lines.proofs.Asking.{ok_more, text_asked}
 use Rattle.live_lines.proofs.asked.asked_in.Goals as goal

@@ -1,5 +1,5 @@
 use Rattle.std.proofs.Common.{sym, subst}
-use Rattle.written_values.specs.Reading.{texts_of}
+use Rattle.value_syntax.specs.Reading.{texts_of}
 use Rattle.std.specs.Prelude.{IfOk}
 use Rattle.live_lines.specs.declared.words.Word.{Word}
 use Rattle.live_lines.specs.Lines.{AsksBehind, AsksJust}

@@ -1,5 +1,5 @@
 use Rattle.std.proofs.Common.{rules, IsTrue, arith}
-use Rattle.written_values.specs.Reading.{texts_of}
+use Rattle.value_syntax.specs.Reading.{texts_of}
 use Rattle.live_lines.proofs.Asking.{no_change}
 use Rattle.live_lines.proofs.asked.edit_by.Goals as goal
 

@@ -1,4 +1,4 @@
-use Rattle.written_values.specs.Reading.{texts_of}
+use Rattle.value_syntax.specs.Reading.{texts_of}
 use Rattle.live_lines.proofs.Asking.{ops_lack_none}
 use Rattle.live_lines.proofs.asked.lacks_behind.Goals as goal
 

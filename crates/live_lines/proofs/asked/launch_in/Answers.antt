@@ -1,5 +1,5 @@
 use Rattle.std.proofs.Common.{rules, ◌≡◌, ◌∷◌, ◌<◌, ◌^◌, [], ℕ, List, IsSomeAnd, decimal, subst}
-use Rattle.written_values.specs.Reading.{texts_of}
+use Rattle.value_syntax.specs.Reading.{texts_of}
 use Rattle.live_lines.specs.Lines.{AsksJust, LaunchAsks}
 use Rattle.live_lines.proofs.Asking.{no_node, node_asked}
 use Rattle.live_lines.proofs.asked.launch_in.Goals as goal

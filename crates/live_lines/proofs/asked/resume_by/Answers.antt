@@ -1,5 +1,5 @@
 use Rattle.std.proofs.Common.{arith}
-use Rattle.written_values.specs.Reading.{texts_of}
+use Rattle.value_syntax.specs.Reading.{texts_of}
 use Rattle.live_lines.proofs.Asking.{resume_alone}
 use Rattle.live_lines.proofs.asked.resume_by.Goals as goal
 

@@ -1,10 +1,10 @@
 use Rattle.std.proofs.Common.{◌≡◌, ◌∙◌, subst, sym}
 use Rattle.std.specs.Prelude.{OnOk}
 use Rattle.committer.specs.Listed.{StaysListedSo}
-use Rattle.service_threads.specs.Kept.{IsOnCourse, PostsAlong}
-use Rattle.service_threads.specs.Pace.{IsBegun}
-use Rattle.settled_lists.specs.declared.builds.Builds.{Builds}
-use Rattle.settled_lists.specs.declared.builds.Builds.TheVariants.{InTurn, Beside}
+use Rattle.committer_thread.specs.Kept.{IsOnCourse, PostsAlong}
+use Rattle.committer_thread.specs.Pace.{IsBegun}
+use Rattle.request_lists.specs.declared.builds.Builds.{Builds}
+use Rattle.request_lists.specs.declared.builds.Builds.TheVariants.{InTurn, Beside}
 use Rattle.live_service.specs.ServedList.{builds_of}
 use Rattle.live_service.proofs.engine.commit_lines.Goals as goal
 

@@ -1,6 +1,6 @@
 use Rattle.std.proofs.Common.{◌≡◌, ◌∙◌, rules, sym, subst, All}
 use Rattle.std.proofs.lemmas.List.Elements.{All-head, All-rest}
-use Rattle.settled_lists.specs.Posted.{ArePosted}
+use Rattle.request_lists.specs.Posted.{ArePosted}
 use Rattle.live_service.proofs.Backs.{each_of}
 use Rattle.live_service.proofs.Noting.{none_joined}
 use Rattle.std.specs.Vec.Iter.{into_iter_items}

@@ -1,8 +1,8 @@
 use Rattle.std.proofs.Common.{sym, subst}
 use Rattle.checkpoint.specs.StoreWords.{state_of, view_of}
 use Rattle.committer.specs.CommitterWords.{store_of}
-use Rattle.service_threads.specs.Kept.{HasSettledSome}
-use Rattle.service_threads.proofs.Settling.{some_settled_still}
+use Rattle.committer_thread.specs.Kept.{HasSettledSome}
+use Rattle.committer_thread.proofs.Settling.{some_settled_still}
 use Rattle.live_service.proofs.Ended.{stopped_early}
 use Rattle.live_service.proofs.engine.run.Goals as goal
 

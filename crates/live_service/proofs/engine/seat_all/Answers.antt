@@ -1,5 +1,5 @@
 use Rattle.std.proofs.Common.{rules, ◌∙◌}
-use Rattle.live_service.proofs.Seats.{all_editors, fresh_seats, seated, started}
+use Rattle.live_service.proofs.Actors.{all_editors, fresh_seats, seated, started}
 use Rattle.live_service.proofs.engine.seat_all.Goals as goal
 
 pub named-requires-clause-named : goal.named-requires-clause-named

@@ -3,7 +3,7 @@ use Rattle.std.proofs.lemmas.List.Elements.{All-head, All-push, All-rest}
 use Rattle.std.specs.Vec.Iter.{into_iter_items}
 use Rattle.std.specs.Prelude.{IfSome}
 use Rattle.intake.specs.Editors.{Editing}
-use Rattle.service_workers.specs.declared.session_editor.SessionEditor.{SessionEditor}
+use Rattle.service_actors.specs.declared.session_editor.SessionEditor.{SessionEditor}
 use Rattle.line_exchange.specs.declared.messages.Noted.{Noted}
 use Rattle.line_workers.specs.Submits.{ComesBack}
 use Rattle.live_service.proofs.engine.start_editors.Goals as goal

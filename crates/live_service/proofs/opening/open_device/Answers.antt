@@ -2,7 +2,7 @@ use Rattle.std.proofs.Common.{rules, ◌≡◌, sym, subst, IsTrue}
 use Rattle.disk_trait.specs.Disk.{IsSameDevice, OnlyRead}
 use Rattle.checkpoint.specs.StoreWords.{state_of}
 use Rattle.layout_2.specs.State.{State}
-use Rattle.written_values.specs.Words.{IsWithin}
+use Rattle.value_syntax.specs.Words.{IsWithin}
 use Rattle.live_service.proofs.Telling.{not_opened}
 use Rattle.live_service.proofs.opening.open_device.Goals as goal
 

@@ -3,7 +3,7 @@ use Rattle.std.proofs.Crossing.{crosses}
 use Rattle.generations.proofs.reader.BoardReader.TheSendSync.{the_send as reader_send}
 use Rattle.generations.proofs.writer.BoardWriter.TheSendSync.{the_send as writer_send}
 use Rattle.live_service.proofs.Sending.{store_send, source_send, config_send}
-use Rattle.line_exchange.proofs.exchange.Exchange.TheSendSync.{the_sync as exchange_sync}
+use Rattle.line_exchange.proofs.exchange.LineQueues.TheSendSync.{the_sync as exchange_sync}
 use Rattle.live_service.proofs.running.start_engine.Goals as goal
 
 pub spawn_with-requires-send-F : goal.spawn_with-requires-send-F

@@ -1,6 +1,6 @@
 use denote.Param.Send.{IsSend, sendable}
 use Rattle.std.proofs.Crossing.{crosses}
-use Rattle.stand_ins.proofs.Sends.{hooked_send}
+use Rattle.test_doubles.proofs.Sends.{hooked_send}
 use Rattle.live_tests.specs.contracts.endless.Refused as refused
 use Rattle.live_tests.proofs.endless.expect_end.Goals as goal
 

@@ -1,6 +1,6 @@
 use denote.Param.Send.{IsSend, IsSync, sendable}
 use Rattle.std.proofs.Crossing.{crosses}
-use Rattle.stand_ins.proofs.Sends.{hooked_send}
+use Rattle.test_doubles.proofs.Sends.{hooked_send}
 use Rattle.live_tests.specs.contracts.held.Signs as signs
 use Rattle.live_tests.proofs.held.expect_row.Goals as goal
 

@@ -3,7 +3,7 @@ use denote.Param.{param}
 use denote.Param.Send.{IsSend, IsSync, param_send, sendable}
 use Rattle.std.proofs.Crossing.{crosses}
 use Rattle.live_tests.specs.contracts.tables.Signs as signs
-use Rattle.stand_ins.proofs.Sends.{memory_send}
+use Rattle.test_doubles.proofs.Sends.{memory_send}
 use Rattle.live_tests.proofs.Sends.{file_send, put_send}
 use Rattle.live_tests.proofs.tables.expect_held.Given as given
 use Rattle.live_tests.proofs.tables.expect_held.Lts as lts

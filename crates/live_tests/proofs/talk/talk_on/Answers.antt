@@ -1,6 +1,6 @@
 use denote.Param.Send.{sendable}
 use Rattle.std.proofs.Crossing.{crosses}
-use Rattle.stand_ins.proofs.Sends.{memory_send}
+use Rattle.test_doubles.proofs.Sends.{memory_send}
 use Rattle.live_tests.proofs.talk.talk_on.Goals as goal
 
 pub run-served-requires-send-D : goal.run-served-requires-send-D

@@ -1,5 +1,5 @@
 use Rattle.std.proofs.Common.{◌<◌, ℕ}
-use Rattle.written_values.specs.Reading.{texts_of}
+use Rattle.value_syntax.specs.Reading.{texts_of}
 use Rattle.edge_lists.specs.NameLists.{IsNumberOf}
 use Rattle.node_names.proofs.words.place_of.Given as goal
 

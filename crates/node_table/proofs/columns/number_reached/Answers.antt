@@ -13,7 +13,7 @@ use Rattle.heavy_labels.specs.declared.numbered_member.NumberedMember.{NumberedM
 use Rattle.node_table.specs.Columns.{member_of}
 use Rattle.node_table.specs.RowLists.{nodes_linked, nodes_numbered, rows_by}
 use Rattle.node_table.proofs.Builds.RowSteps.{has_places, members_are, members_have, members_reached, nodes_are, reached_length, rows_list}
-use Rattle.node_table.proofs.Builds.RowColumns.{are_members, few_members, nodes_inside, numbers_apart, numbers_inside, numbers_reached, column_of}
+use Rattle.node_table.proofs.Builds.RowColumns.{are_members, few_members, nodes_inside, key_columns, numbers_inside, numbers_reached, column_of}
 use Rattle.node_table.proofs.columns.number_reached.Goals as goal
 
 pub numbered-requires-clause-members : goal.numbered-requires-clause-members
@@ -43,7 +43,7 @@ same_nodes ms all ns e a h = numbered_nodes ms no_tree ns a (subst (λ z. AreNum
 
 pub returns-clause-apart : goal.returns-clause-apart
 returns-clause-apart g c =
-    numbers_apart c.args.graph.now c.nodes-sound.ensures.sound c.args.root c.requires.inside (reached_of c.args.reached.now) c.requires.tree c.in_ok-numbered.numbered.items
+    key_columns c.args.graph.now c.nodes-sound.ensures.sound c.args.root c.requires.inside (reached_of c.args.reached.now) c.requires.tree c.in_ok-numbered.numbered.items
     (same_nodes (map (λ k. member_of c.args.graph.now k) (reached_of c.args.reached.now)) c.deref.result.now c.in_ok-numbered.numbered.items
     (c.deref.ensures.value ∙ c.in_ok-members.ensures ∙ members_are c.args.graph.now c.args.reached.now c.requires.ports)
     (are_members c.args.graph.now c.nodes-sound.ensures.sound c.args.root c.requires.inside (reached_of c.args.reached.now) c.requires.tree) c.in_ok-numbered.ensures)

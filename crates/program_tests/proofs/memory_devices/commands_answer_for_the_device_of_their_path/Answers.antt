@@ -1,6 +1,6 @@
 use denote.Param.Send.{sendable}
 use Rattle.std.proofs.Crossing.{crosses}
-use Rattle.stand_ins.proofs.Sends.{memory_send}
+use Rattle.test_doubles.proofs.Sends.{memory_send}
 use Rattle.device_files.proofs.Sending.{file_send}
 use Rattle.new_devices.proofs.Sending.{none_send}
 use Rattle.program_tests.proofs.memory_devices.commands_answer_for_the_device_of_their_path.Goals as goal

@@ -1,8 +1,8 @@
 use Rattle.std.proofs.Common.{◌∙◌, ap, refl, sym, subst, List, ℕ}
 use Rattle.journal.specs.RequestForm.{request_form, request_is_form}
 use Rattle.journal.proofs.Lists.{one_list}
-use Rattle.layout_parts.proofs.LoadLemmas.{not_loaded}
-use Rattle.layout_parts.proofs.ReadLemmas.{is_read_on, still}
+use Rattle.layout_reader.proofs.LoadLemmas.{not_loaded}
+use Rattle.layout_reader.proofs.ReadLemmas.{is_read_on, still}
 use Rattle.layout_2.specs.Form.{layout_form}
 use Rattle.layout_2.specs.Layout.{journal_of}
 use Rattle.layout_2.specs.Loading.{state_of, stands_for}

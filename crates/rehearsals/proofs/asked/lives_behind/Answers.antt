@@ -1,7 +1,7 @@
 use Rattle.std.proofs.Common.{rules, ◌≡◌, ◌∙◌, ◌++◌, ◌∷◌, [], ap, sym, subst, List, reverse}
-use Rattle.event_runs.specs.declared.event.Event.{Event}
+use Rattle.event_model.specs.declared.event.Event.{Event}
 use Rattle.life_chain.specs.declared.life.Life.{Life}
-use Rattle.rehearsal_lines.specs.Grammar.{IsLifeOrEvent}
+use Rattle.rehearsal_syntax.specs.Grammar.{IsLifeOrEvent}
 use Rattle.rehearsals.specs.Asked.{AskFor, IsSetAs}
 use Rattle.rehearsals.proofs.AskedOrders.{is_event, life_more, none_before, stands_taken, whole_more}
 use Rattle.rehearsals.proofs.asked.lives_behind.Goals as goal

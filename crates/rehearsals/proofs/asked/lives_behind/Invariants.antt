@@ -1,5 +1,5 @@
 use Rattle.std.proofs.Common.{◌≡◌, ◌++◌, List, reverse, vec_len}
-use Rattle.rehearsal_lines.specs.declared.line.RehearsalLine.{RehearsalLine}
+use Rattle.rehearsal_syntax.specs.declared.line.RehearsalLine.{RehearsalLine}
 use Rattle.rehearsals.specs.Asked.{AskFor}
 use Rattle.rehearsals.proofs.asked.lives_behind.Given as goal
 

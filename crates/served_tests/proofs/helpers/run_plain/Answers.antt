@@ -1,6 +1,6 @@
 use denote.Param.Send.{sendable}
 use Rattle.std.proofs.Crossing.{crosses}
-use Rattle.stand_ins.proofs.Sends.{memory_send}
+use Rattle.test_doubles.proofs.Sends.{memory_send}
 use Rattle.served_tests.proofs.helpers.run_plain.Goals as goal
 
 pub run-requires-send-D : goal.run-requires-send-D

@@ -1,6 +1,6 @@
 use denote.Param.Send.{sendable}
 use Rattle.std.proofs.Crossing.{crosses}
-use Rattle.stand_ins.proofs.Sends.{file_send}
+use Rattle.test_doubles.proofs.Sends.{file_send}
 use Rattle.served_tests.proofs.judged.printed_of.Goals as goal
 
 pub run-status-requires-send-D : goal.run-status-requires-send-D

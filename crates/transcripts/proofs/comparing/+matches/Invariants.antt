@@ -1,5 +1,5 @@
 use Rattle.std.proofs.Common.{◌<◌, ℕ, length, take, drop}
-use Rattle.written_values.specs.Reading.{texts_of}
+use Rattle.value_syntax.specs.Reading.{texts_of}
 use Rattle.transcripts.specs.Matching.{Fits, Matches}
 use Rattle.transcripts.proofs.comparing.+matches.Given as goal
 

@@ -1,10 +1,10 @@
 use Rattle.std.proofs.Common.{arith, rules, ◌∙◌, ◌+◌, [], IsTrue, refl, subst}
 use Rattle.disk_trait.specs.Disk.{started}
 use Rattle.layout_2.specs.Standing.{StandsFor}
-use Rattle.layout_parts.specs.Heads.{other}
+use Rattle.layout_reader.specs.Heads.{other}
 use Rattle.checkpoint.specs.Kept.{kept_stands}
 use Rattle.checkpoint.specs.StoreWords.{state_of, view_of, stands_now}
-use Rattle.layout_parts.proofs.ReadLemmas.{still}
+use Rattle.layout_reader.proofs.ReadLemmas.{still}
 use Rattle.checkpoint.proofs.Rolls.{kept_rolled, stands_closing, stands_publishing}
 use Rattle.checkpoint.proofs.SameStore.{same_store}
 use Rattle.checkpoint.proofs.store.Store.roll.Goals as goal

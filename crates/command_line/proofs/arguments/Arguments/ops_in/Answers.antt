@@ -2,8 +2,8 @@ use Rattle.std.proofs.Common.{rules, inr, refl, arith, All, List, subst, sym}
 use Rattle.std.proofs.lemmas.Grind.{common_steps}
 use Rattle.std.proofs.lemmas.List.Elements.{All-push}
 use Rattle.graph_edits.specs.declared.edits.Op.{Op}
-use Rattle.written_values.specs.OpText.{Fits, op_text}
-use Rattle.written_values.proofs.Written.{none_missed, one_read}
+use Rattle.value_syntax.specs.OpText.{Fits, op_text}
+use Rattle.value_syntax.proofs.Written.{none_missed, one_read}
 use Rattle.command_line.proofs.arguments.Arguments.ops_in.Goals as goal
 
 pub returns-in_default-clause-cause : goal.returns-in_default-clause-cause

@@ -1,7 +1,7 @@
 use Rattle.std.proofs.Common.{◌≡◌, take, map, List, All}
 use Rattle.clap.specs.Walk.{texts}
 use Rattle.graph_edits.specs.declared.edits.Op.{Op}
-use Rattle.written_values.specs.OpText.{Fits, op_text}
+use Rattle.value_syntax.specs.OpText.{Fits, op_text}
 use Rattle.command_line.proofs.arguments.Arguments.ops_in.Given as goal
 
 abbrev pub invariant-loop-text : goal.invariant-loop-text

@@ -5,8 +5,8 @@ use Rattle.graph_edits.specs.Edges.{Network}
 use Rattle.schemes.specs.declared.parts.Parts.{Parts}
 use Rattle.scheme_builds.specs.Schemes.{IsSchemeOf}
 use Rattle.generations.specs.declared.posting.Notice.TheVariants.{Built}
-use Rattle.event_runs.specs.Machines.{Machine, with_posted}
-use Rattle.event_runs.specs.Answers.{post, newest_number, IsBuilt}
+use Rattle.event_model.specs.Machines.{Machine, with_posted}
+use Rattle.event_model.specs.Answers.{post, newest_number, IsBuilt}
 use Rattle.interleave.specs.WorldWords.{machine_of}
 use Rattle.interleave.proofs.world.World.build.Goals as goal
 

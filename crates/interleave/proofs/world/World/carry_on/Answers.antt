@@ -1,8 +1,8 @@
 use Rattle.std.proofs.Common.{◌≡◌, ◌<◌, ℕ, List, map, set, length, inl, inr, refl, ap, sym, ◌∙◌, subst, arith}
 use Rattle.std.proofs.lemmas.List.{length-map}
 use Rattle.forwarders.specs.Answers.{hop_at}
-use Rattle.event_runs.specs.Machines.{Machine}
-use Rattle.event_runs.specs.Trips.{Trip, hop_reply, hop_way}
+use Rattle.event_model.specs.Machines.{Machine}
+use Rattle.event_model.specs.Trips.{Trip, hop_reply, hop_way}
 use Rattle.interleave.specs.declared.stored.Way.{Way}
 use Rattle.interleave.specs.Stores.{trip_of}
 use Rattle.interleave.specs.WorldWords.{machine_of}

@@ -12,8 +12,8 @@ use Rattle.group_commit.specs.declared.refused.DeskRefused.TheVariants.{Device}
 use Rattle.group_commit.specs.Settling.{settle}
 use Rattle.group_commit.specs.Turns.{AreBehind}
 use Rattle.group_commit.specs.DeskWords.{store_of, held_of}
-use Rattle.run_laws.specs.History.{settled}
-use Rattle.run_laws.specs.Happenings.{state_held, IsEither, won, lost}
+use Rattle.event_laws.specs.History.{settled}
+use Rattle.event_laws.specs.Happenings.{state_held, IsEither, won, lost}
 use Rattle.interleave.specs.WorldWords.{lists_of, world_view}
 use Rattle.interleave.proofs.Lists.{lists_are, none_left}
 use Rattle.interleave.proofs.Tickets.{won_behind}

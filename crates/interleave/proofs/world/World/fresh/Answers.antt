@@ -5,7 +5,7 @@ use Rattle.layout_2.specs.State.{AreInTurn}
 use Rattle.group_commit.specs.DeskWords.{store_of}
 use Rattle.group_commit.specs.Turns.{AreBehind}
 use Rattle.group_commit.proofs.TurnLemmas.{behind_itself}
-use Rattle.event_runs.specs.declared.session.Session.{Session}
+use Rattle.event_model.specs.declared.session.Session.{Session}
 use Rattle.interleave.specs.Stores.{AreLasts}
 use Rattle.interleave.proofs.Tickets.{fresh_lasts}
 use Rattle.interleave.proofs.world.World.fresh.Goals as goal

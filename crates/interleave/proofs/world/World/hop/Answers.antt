@@ -3,9 +3,9 @@ use Rattle.std.specs.Option.{option_map}
 use Rattle.std.proofs.lemmas.Option.{slice_get_read, slice_get-map}
 use Rattle.generations.specs.Boards.{BoardState}
 use Rattle.forwarders.specs.Answers.{hop_at}
-use Rattle.event_runs.specs.Trips.{Trip}
-use Rattle.event_runs.specs.Machines.{Machine, board_at}
-use Rattle.event_runs.specs.Answers.{OrMemory, hop, hop_as, looked, sees}
+use Rattle.event_model.specs.Trips.{Trip}
+use Rattle.event_model.specs.Machines.{Machine, board_at}
+use Rattle.event_model.specs.Answers.{OrMemory, hop, hop_as, looked, sees}
 use Rattle.interleave.specs.declared.stored.Way.{Way}
 use Rattle.interleave.specs.Stores.{trip_of}
 use Rattle.interleave.specs.WorldWords.{machine_of}

@@ -1,10 +1,10 @@
 use Rattle.std.proofs.Common.{◌≡◌, ℕ, Result, Ok, Err, refl, sym, ap, ◌∙◌, subst}
 use Rattle.schemes.specs.declared.packet.Packet.{Packet}
 use Rattle.forwarders.specs.declared.refused.Refused.{Refused}
-use Rattle.event_runs.specs.declared.reply.Reply.TheVariants.{NotRouted}
-use Rattle.event_runs.specs.Trips.{launch_by}
-use Rattle.event_runs.specs.Machines.{Machine, board_at}
-use Rattle.event_runs.specs.Answers.{OrMemory, answer, launch, launch_as, looked, sees}
+use Rattle.event_model.specs.declared.reply.Reply.TheVariants.{NotRouted}
+use Rattle.event_model.specs.Trips.{launch_by}
+use Rattle.event_model.specs.Machines.{Machine, board_at}
+use Rattle.event_model.specs.Answers.{OrMemory, answer, launch, launch_as, looked, sees}
 use Rattle.interleave.specs.WorldWords.{machine_of}
 use Rattle.interleave.proofs.Steps.{answered, either, launches}
 use Rattle.interleave.proofs.world.World.launch.Goals as goal

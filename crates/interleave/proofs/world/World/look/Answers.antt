@@ -3,10 +3,10 @@ use Rattle.std.proofs.lemmas.List.{length-set}
 use Rattle.std.proofs.lemmas.Option.{slice_get_read}
 use Rattle.requests.specs.Tickets.{sessions}
 use Rattle.intake.specs.Outcomes.{outcome_on}
-use Rattle.event_runs.specs.declared.session.Session.{Session}
-use Rattle.event_runs.specs.declared.reply.Reply.TheVariants.{Looked}
-use Rattle.event_runs.specs.Machines.{Machine, board_at, with_session}
-use Rattle.event_runs.specs.Answers.{answer, look, further}
+use Rattle.event_model.specs.declared.session.Session.{Session}
+use Rattle.event_model.specs.declared.reply.Reply.TheVariants.{Looked}
+use Rattle.event_model.specs.Machines.{Machine, board_at, with_session}
+use Rattle.event_model.specs.Answers.{answer, look, further}
 use Rattle.interleave.specs.WorldWords.{machine_of}
 use Rattle.interleave.proofs.Steps.{answered, looks}
 use Rattle.interleave.proofs.Tickets.{look_lasts}

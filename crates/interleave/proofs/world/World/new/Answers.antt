@@ -1,7 +1,7 @@
 use Rattle.std.proofs.Common.{◌≡◌, ◌≤◌, ℕ, List, length, replicate, sym, ap, ◌∙◌, subst}
 use Rattle.std.proofs.lemmas.List.{length-replicate}
-use Rattle.event_runs.specs.declared.session.Session.{Session}
-use Rattle.event_runs.specs.Machines.{fresh_session}
+use Rattle.event_model.specs.declared.session.Session.{Session}
+use Rattle.event_model.specs.Machines.{fresh_session}
 use Rattle.interleave.specs.Begun.{HasBegun}
 use Rattle.interleave.proofs.world.World.new.Goals as goal
 

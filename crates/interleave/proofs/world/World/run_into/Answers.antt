@@ -3,14 +3,14 @@ use Rattle.std.proofs.lemmas.List.{take_more, take_all}
 use Rattle.disk_trait.specs.Disk.{ran_none, ran_on}
 use Rattle.checkpoint.specs.StoreWords.{disk_of}
 use Rattle.layout_2.specs.State.{State}
-use Rattle.run_laws.specs.Listed.{IsListed}
-use Rattle.run_laws.specs.Runs.{IsRun}
-use Rattle.run_laws.specs.Ways.{AreOnWay}
-use Rattle.event_runs.specs.declared.event.Event.{Event}
-use Rattle.event_runs.specs.declared.reply.Reply.{Reply}
-use Rattle.event_runs.specs.Answers.{number_of}
-use Rattle.event_runs.specs.Machines.{Machine}
-use Rattle.event_runs.specs.Runs.{Run}
+use Rattle.event_laws.specs.Listed.{IsListed}
+use Rattle.event_laws.specs.Runs.{IsRun}
+use Rattle.event_laws.specs.Ways.{AreOnWay}
+use Rattle.event_model.specs.declared.event.Event.{Event}
+use Rattle.event_model.specs.declared.reply.Reply.{Reply}
+use Rattle.event_model.specs.Answers.{number_of}
+use Rattle.event_model.specs.Machines.{Machine}
+use Rattle.event_model.specs.Runs.{Run}
 use Rattle.interleave.specs.WorldWords.{lists_of, machine_of, world_store, world_view}
 use Rattle.interleave.specs.Crashes.{HasWorlds, moment_at}
 use Rattle.interleave.proofs.Going.{none_yet, one_more, safe_each}

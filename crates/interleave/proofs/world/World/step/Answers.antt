@@ -1,5 +1,5 @@
 use Rattle.std.proofs.Common.{rules, sym, subst}
-use Rattle.event_runs.specs.declared.event.Event.{Event}
+use Rattle.event_model.specs.declared.event.Event.{Event}
 use Rattle.interleave.specs.Events.{WorldAnswers}
 use Rattle.interleave.proofs.world.World.step.Goals as goal
 

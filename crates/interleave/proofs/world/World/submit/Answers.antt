@@ -8,10 +8,10 @@ use Rattle.layout_2.specs.State.{asked, AreInTurn}
 use Rattle.group_commit.specs.DeskWords.{store_of}
 use Rattle.group_commit.specs.Turns.{AreBehind}
 use Rattle.intake.specs.declared.outcome.SubmitRefused.TheVariants.{QueueFull}
-use Rattle.event_runs.specs.declared.session.Session.{Session}
-use Rattle.event_runs.specs.declared.reply.Reply.TheVariants.{Submitted, NotSubmitted}
-use Rattle.event_runs.specs.Machines.{Machine, board_at, let_in}
-use Rattle.event_runs.specs.Answers.{answer, submit}
+use Rattle.event_model.specs.declared.session.Session.{Session}
+use Rattle.event_model.specs.declared.reply.Reply.TheVariants.{Submitted, NotSubmitted}
+use Rattle.event_model.specs.Machines.{Machine, board_at, let_in}
+use Rattle.event_model.specs.Answers.{answer, submit}
 use Rattle.interleave.specs.Stores.{AreLasts}
 use Rattle.interleave.specs.WorldWords.{machine_of}
 use Rattle.interleave.proofs.Steps.{answered, finds_full, waits}

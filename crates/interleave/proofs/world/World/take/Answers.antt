@@ -7,9 +7,9 @@ use Rattle.layout_2.specs.State.{IsNext}
 use Rattle.generations.specs.Notices.{notice_of}
 use Rattle.group_commit.specs.DeskWords.{store_of, held_of, due_of, tickets_of}
 use Rattle.group_commit.specs.Limits.{most_held}
-use Rattle.event_runs.specs.declared.reply.Reply.TheVariants.{Taken}
-use Rattle.event_runs.specs.Machines.{Machine, held}
-use Rattle.event_runs.specs.Answers.{answer, take_one}
+use Rattle.event_model.specs.declared.reply.Reply.TheVariants.{Taken}
+use Rattle.event_model.specs.Machines.{Machine, held}
+use Rattle.event_model.specs.Answers.{answer, take_one}
 use Rattle.interleave.specs.WorldWords.{machine_of}
 use Rattle.interleave.proofs.Steps.{exactly, takes}
 use Rattle.interleave.proofs.Tickets.{next_here}

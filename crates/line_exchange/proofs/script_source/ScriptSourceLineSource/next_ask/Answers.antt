@@ -1,6 +1,6 @@
 use Rattle.std.proofs.Common.{List, subst}
 use Rattle.std.specs.Vec.Iter.{into_iter_items}
-use Rattle.written_values.specs.declared.line.ScriptLine.{ScriptLine}
+use Rattle.value_syntax.specs.declared.line.ScriptLine.{ScriptLine}
 use Rattle.line_exchange.specs.Reads.{AreGivenOf}
 use Rattle.line_exchange.proofs.ReadLines.{line_asks}
 use Rattle.line_exchange.proofs.script_source.ScriptSourceLineSource.next_ask.Goals as goal

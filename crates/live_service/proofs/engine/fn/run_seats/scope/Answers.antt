@@ -5,8 +5,8 @@ use Rattle.atomic_table.specs.Seated.{TableId}
 use Rattle.checkpoint.specs.StoreWords.{state_of, view_of}
 use Rattle.committer.specs.CommitterWords.{got_of, posts_of, queue_of, store_of}
 use Rattle.intake.specs.Turns.{of}
-use Rattle.settled_lists.specs.Posted.{ArePosted}
-use Rattle.service_threads.specs.Kept.{HasFailed, HasSettled}
+use Rattle.request_lists.specs.Posted.{ArePosted}
+use Rattle.committer_thread.specs.Kept.{HasFailed, HasSettled}
 use Rattle.live_service.specs.Noting.{AreAllNoted}
 use Rattle.live_service.specs.ServedList.{builds_of}
 use Rattle.live_service.proofs.AllTaken.{all_sessions, ok_holds}

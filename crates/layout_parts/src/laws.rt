@@ -1,9 +1,0 @@
-//! The law of standing.
-ghost use Rattle.layout_parts.specs.Standing.{OneState};
-
-use crate::form::Layout;
-
-/// An image of a device of this layout stands for at most one state.
-pub fn standing_law<L: Layout>()
-    ensures { OneState L.form }
-{}

@@ -1,0 +1,96 @@
+// Reading a rehearsal.
+ghost use Rattle.std.specs.Prelude.{◌≡◌, IfOk, IfErr};
+ghost use Rattle.value_syntax.specs.Reading.{texts_of};
+ghost use Rattle.value_syntax.specs.Scripts.{lines_of};
+ghost use Rattle.rehearsal_syntax.specs.Said.{IsFirstRefused, SayRehearsal, bare, words_of};
+
+use crate::line::RehearsalLine;
+use crate::line_reading::line_in;
+use crate::refused::{Form, LineRefused};
+use crate::stage::Stage;
+use std::alloc::{AllocError, Global};
+use value_syntax::lines_in;
+
+/// The lines of a rehearsal, or the first line of the text that isn't understood.
+pub fn read_rehearsal(
+    alloc: Global,
+    text: &str,
+) -> Result<Result<Vec<RehearsalLine>, LineRefused>, AllocError>
+    ensures found { IfOk result (λ read. IfOk read (λ lines. SayRehearsal (lines_of text.now) lines.items)) }
+    ensures refused { IfOk result (λ read. IfErr read (λ refused. IsFirstRefused (lines_of text.now) refused.number)) }
+{
+    let texts = lines_in(alloc, text)?;
+    lines_read(alloc, &texts)
+}
+
+// The lines that these texts say.
+fn lines_read(
+    alloc: Global,
+    texts: &[&str],
+) -> Result<Result<Vec<RehearsalLine>, LineRefused>, AllocError>
+    ensures found { IfOk result (λ read. IfOk read (λ lines. SayRehearsal (texts_of texts.now) lines.items)) }
+    ensures refused { IfOk result (λ read. IfErr read (λ refused. IsFirstRefused (texts_of texts.now) refused.number)) }
+{
+    let mut lines = Vec::new(alloc);
+    let mut stage = Stage::Empty;
+    for index in 0..texts.len() {
+        let words = words_in(alloc, texts[index])?;
+        if words.is_empty() {
+            continue;
+        }
+        let Some(line) = line_in(alloc, stage, &words)? else {
+            let number = index + 1;
+            let form = form_of(stage, &words);
+            return Ok(Err(LineRefused { number, form }));
+        };
+        stage = stage.behind(&line);
+        lines.push(line)?;
+    }
+    Ok(Ok(lines))
+}
+
+// What a line of these words should have been.
+fn form_of(stage: Stage, words: &[&str]) -> Form {
+    match stage {
+        Stage::Empty => Form::Device,
+        Stage::Made(_) => Form::Life,
+        Stage::Living(_) => match words.first() {
+            Some(name) => form_named(*name),
+            None => Form::Line,
+        },
+    }
+}
+
+// What a life or an event should be that begins with this word.
+fn form_named(name: &str) -> Form {
+    match name {
+        "life" => Form::Life,
+        "submit" => Form::Submit,
+        "look" => Form::Look,
+        "take" | "commit" | "post" => Form::Step,
+        "rebuild" => Form::Rebuild,
+        "launch" => Form::Launch,
+        "hop" => Form::Hop,
+        _ => Form::Line,
+    }
+}
+
+// ---- the words of a line
+
+// The words of a line.
+fn words_in<'a>(alloc: Global, text: &'a str) -> Result<Vec<&'a str>, AllocError>
+    ensures { IfOk result (λ words. texts_of words.items ≡ words_of text.entry.now) }
+{
+    let parts = bare_of(text).split(' ');
+    parts.filter(|part| !part.is_empty()).collect(alloc)
+}
+
+// A line without its comment.
+fn bare_of<'a>(text: &'a str) -> &'a str
+    ensures { result.now ≡ bare text.entry.now }
+{
+    match text.split_once('#') {
+        Some((front, _)) => front,
+        None => text,
+    }
+}
