@@ -23,9 +23,9 @@ use Rattle.file_commands.specs.Printed.{PrintedAlone, PrintedTables}
 use Rattle.file_commands.proofs.Places as rest
 use Rattle.commands.specs.declared.outcome.Outcome.{Outcome}
 use Rattle.commands.specs.declared.outcome.Outcome.TheVariants.{Answered, Told, Untold}
-use Rattle.commands.specs.declared.streams.Streams.{Streams}
+use Rattle.file_commands.specs.Uses.{Stream, device_use, known_after, known_before}
 use Rattle.commands.specs.Serves.{AskService, MayEndServing, OfServed, PrintedServing}
-use Rattle.commands.specs.Runs.{AnswersWords, IsFaultBy, IsFaultFor, IsOutcome, IsServingFault, MayEnd, PrintedFor, RunsWords, Says, SaysAll, SaysAlone, SaysServing, SaysTables, StopsServing, status_in}
+use Rattle.commands.specs.Runs.{AnswersWords, AnyPut, IsFaultBy, IsFaultFor, IsOutcome, IsServingFault, MayEnd, PrintedFor, RunsWords, Says, SaysAll, SaysAlone, SaysServing, SaysTables, StopsServing, status_in, streams_of}
 
 -- what isn't understood is no fault of an output
 pub never_output : (fault : Fault) → IsNotUnderstood fault → fault ≢ told.Output
@@ -81,18 +81,24 @@ refused model done put words given old new told_old told_new (Told fault) is one
 refused model done put words given old new told_old told_new (Untold fault) is one = inr (fault, is_understood fault one, is, inr refl)
 
 -- what the status of a run says
-pub says : {D R W E : Type 0} (model : Ghosts D) (done : Doing D) (put : List Put → Type 0) (words : List Text) (remaining : R → Option (List ℕ)) (contents : W → Option (List ℕ)) (shown : E → Option (List ℕ)) (old new : Streams R W E) (outcome : Outcome) (code : ℕ)
-    → RunsWords model done put words remaining contents shown old new outcome → code ≡ status_in outcome → code ≤ 2 → SaysAll model done put words remaining contents old.script new.script old.out new.out code
-says model done put words remaining contents shown old new outcome code runs is few = record {
-  status = few;
-  answered = λ zero. answered model done put words (remaining old.script) (contents old.out) (contents new.out) (shown old.err) (shown new.err) outcome runs.outcome (sym is ∙ zero);
-  refused = λ one. ⊎_elim inl (λ why. inr (why.0, why.1, why.2, λ batch other. runs.untouched batch why.0 other why.3))
-      (refused model done put words (remaining old.script) (contents old.out) (contents new.out) (shown old.err) (shown new.err) outcome runs.outcome (sym is ∙ one));
-  not_understood = λ two.
-      let why = not_understood model done put words (remaining old.script) (contents old.out) (contents new.out) (shown old.err) (shown new.err) outcome runs.outcome (sym is ∙ two) in
-      (λ batch. runs.untouched batch why.0 (never_output why.0 why.1) why.3, (why.0, why.1, why.2));
-  unread = runs.unread;
-}
+pub says : {D R W E : Type 0} (model : Ghosts D) (done : Doing D) (put : List Put → Type 0) (words : List Text) (script : Stream R) (out : Stream W) (err : Stream E) (outcome : Outcome) (code : ℕ)
+    → RunsWords (device_use model done) put words (streams_of script out err) outcome → code ≡ status_in outcome → code ≤ 2 → SaysAll (device_use model done) put words script out code
+says model done put words script out err outcome code runs is few =
+    let given = known_before script in
+    let old = known_before out in
+    let new = known_after out in
+    let told_old = known_before err in
+    let told_new = known_after err in
+    record {
+      status = few;
+      answered = λ zero. answered model done put words given old new told_old told_new outcome runs.outcome (sym is ∙ zero);
+      refused = λ one. ⊎_elim inl (λ why. inr (why.0, why.1, why.2, λ batch other. runs.untouched batch why.0 other why.3))
+          (refused model done put words given old new told_old told_new outcome runs.outcome (sym is ∙ one));
+      not_understood = λ two.
+          let why = not_understood model done put words given old new told_old told_new outcome runs.outcome (sym is ∙ two) in
+          (λ batch. runs.untouched batch why.0 (never_output why.0 why.1) why.3, (why.0, why.1, why.2));
+      unread = runs.unread;
+    }
 
 -- ---- of places of which less is known
 
@@ -126,12 +132,12 @@ fault_too model done did put also words given old new fault so weaker (inl refus
 fault_too model done did put also words given old new fault so weaker (inr is) = inr (is.0, is.1, may_too model done did put also is.0 given old new fault so weaker is.2)
 
 -- what a status says of places of which all is known it says of those of which less is
-pub says_too : {D R W : Type 0} (model : Ghosts D) (done did : Doing D) (put also : List Put → Type 0) (words : List Text) (remaining : R → Known) (contents : W → Known) (script left : R) (out printed : W) (code : ℕ)
-    → ((events : List (Event D)) → done events → did events) → ((puts : List Put) → put puts → also puts) → SaysAll model done put words remaining contents script left out printed code → SaysAll model did also words remaining contents script left out printed code
-says_too model done did put also words remaining contents script left out printed code so weaker says =
-    let given = remaining script in
-    let before = contents out in
-    let after = contents printed in
+pub says_too : {D R W : Type 0} (model : Ghosts D) (done did : Doing D) (put also : List Put → Type 0) (words : List Text) (script : Stream R) (out : Stream W) (code : ℕ)
+    → ((events : List (Event D)) → done events → did events) → ((puts : List Put) → put puts → also puts) → SaysAll (device_use model done) put words script out code → SaysAll (device_use model did) also words script out code
+says_too model done did put also words script out code so weaker says =
+    let given = known_before script in
+    let before = known_before out in
+    let after = known_after out in
     record {
       status = says.status;
       answered = λ zero. words_too model done did put also words given Done before after so weaker (says.answered zero);
@@ -146,13 +152,13 @@ says_too model done did put also words remaining contents script left out printe
 -- ---- of one kind of tasks what is said of all
 
 -- what holds of each task's answers and faults, a status says
-says_so : {D R W : Type 0} (done : Doing D) (words : List Text) (Answers Others : Task → Known → Ended → Known → Known → Type 0) (MayFail May : Task → Known → Known → Known → Fault → Type 0) (remaining : R → Known) (contents : W → Known) (script left : R) (out printed : W) (code : ℕ)
+says_so : {D R W : Type 0} (done : Doing D) (words : List Text) (Answers Others : Task → Known → Ended → Known → Known → Type 0) (MayFail May : Task → Known → Known → Known → Fault → Type 0) (script : Stream R) (out : Stream W) (code : ℕ)
     → ((task : Task) (given : Known) (ended : Ended) (old new : Known) → Answers task given ended old new → Others task given ended old new) → ((task : Task) (given old new : Known) (fault : Fault) → MayFail task given old new fault → May task given old new fault)
-    → Says done words Answers MayFail remaining contents script left out printed code → Says done words Others May remaining contents script left out printed code
-says_so done words Answers Others MayFail May remaining contents script left out printed code answers fails says =
-    let given = remaining script in
-    let before = contents out in
-    let after = contents printed in
+    → Says done words Answers MayFail script out code → Says done words Others May script out code
+says_so done words Answers Others MayFail May script out code answers fails says =
+    let given = known_before script in
+    let before = known_before out in
+    let after = known_after out in
     let by : (fault : Fault) → IsFaultBy done words (λ task why. MayFail task given before after why) fault → IsFaultBy done words (λ task why. May task given before after why) fault = λ fault is.
     ⊎_elim (λ refused. inl refused) (λ may. inr (may.0, may.1, fails may.0 given before after fault may.2)) is in
     record {
@@ -224,12 +230,12 @@ never_refused model done (Serve device editors forwarders places None words) giv
 never_refused model done (Serve device editors forwarders places (Some rounds) words) given old new is printed = (let no : Refused ≡ Done = printed.0 in absurd (cc))
 never_refused model done _ given old new is printed = is
 
-says_serving : {D R W : Type 0} (model : Ghosts D) (done : Doing D) (put : List Put → Type 0) (words : List Text) (remaining : R → Known) (contents : W → Known) (script left : R) (out printed : W) (code : ℕ) → SaysAll model done put words remaining contents script left out printed code
-    → SaysServing model done words remaining contents script out printed code × StopsServing model done words remaining contents script out printed code
-says_serving model done put words remaining contents script left out printed code says =
-    let given = remaining script in
-    let before = contents out in
-    let after = contents printed in (
+says_serving : {D R W : Type 0} (model : Ghosts D) (done : Doing D) (put : List Put → Type 0) (words : List Text) (script : Stream R) (out : Stream W) (code : ℕ) → SaysAll (device_use model done) put words script out code
+    → SaysServing (device_use model done) words script out code × StopsServing (device_use model done) words script out code
+says_serving model done put words script out code says =
+    let given = known_before script in
+    let before = known_before out in
+    let after = known_after out in (
       (λ zero. (let is = says.answered zero in (is.0, is.1, printed_serving model done put is.0 given Done before after is.2))),
       record {
         refused = λ one asks. ⊎_elim (λ is. absurd (never_refused model done is.0 given before after (serve_alone words is.0 asks is.1) (printed_serving model done put is.0 given Refused before after is.2)))
@@ -238,17 +244,18 @@ says_serving model done put words remaining contents script left out printed cod
       },
     )
 
--- a status of any task, in four
-pub says_parts : {D R W : Type 0} (model : Ghosts D) (done : Doing D) (put : List Put → Type 0) (words : List Text) (remaining : R → Known) (contents : W → Known) (script left : R) (out printed : W) (code : ℕ) → SaysAll model done put words remaining contents script left out printed code
-    → SaysAlone model done words remaining contents script left out printed code
-    × (SaysTables model done put words remaining contents script left out printed code
-    × (SaysServing model done words remaining contents script out printed code × StopsServing model done words remaining contents script out printed code))
-says_parts model done put words remaining contents script left out printed code all =
-    let full = PrintedFor model done put in
-    let may = MayEnd model done put in (
-      says_so done words full (λ task given. PrintedAlone model done task) may (λ task given old new. MayEndAlone model done task) remaining contents script left out printed code (printed_alone model done put) (ends_alone model done put) all,
+-- a status of any task, in four; of what was put nothing is said
+pub says_parts : {D R W : Type 0} (model : Ghosts D) (done : Doing D) (put : List Put → Type 0) (words : List Text) (script : Stream R) (out : Stream W) (code : ℕ) → SaysAll (device_use model done) put words script out code
+    → SaysAlone (device_use model done) words script out code
+    × (SaysTables (device_use model done) AnyPut words script out code
+    × (SaysServing (device_use model done) words script out code × StopsServing (device_use model done) words script out code))
+says_parts model done put words script out code known =
+    let all = says_too model done done put AnyPut words script out code (λ events is. is) (λ puts is. tt) known in
+    let full = PrintedFor model done AnyPut in
+    let may = MayEnd model done AnyPut in (
+      says_so done words full (λ task given. PrintedAlone model done task) may (λ task given old new. MayEndAlone model done task) script out code (printed_alone model done AnyPut) (ends_alone model done AnyPut) all,
       (
-        says_so done words full (λ task given. PrintedTables model done put task) may (λ task given old new. MayEndTables model done put task) remaining contents script left out printed code (printed_tables model done put) (ends_tables model done put) all,
-        says_serving model done put words remaining contents script left out printed code all,
+        says_so done words full (λ task given. PrintedTables model done AnyPut task) may (λ task given old new. MayEndTables model done AnyPut task) script out code (printed_tables model done AnyPut) (ends_tables model done AnyPut) all,
+        says_serving model done AnyPut words script out code all,
       ),
     )

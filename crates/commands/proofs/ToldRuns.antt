@@ -31,6 +31,8 @@ use Rattle.table_files.specs.Files.{Put}
 use Rattle.file_commands.specs.declared.devices.Access.TheVariants.{ToChange}
 use Rattle.commands.specs.declared.outcome.Outcome.{Outcome}
 use Rattle.commands.specs.declared.outcome.Outcome.TheVariants.{Answered, Told, Untold}
+use Rattle.commands.specs.declared.service.Service.{Service}
+use Rattle.file_commands.specs.Uses.{Stream, device_use, known_after, known_before}
 use Rattle.file_commands.specs.Devices.{Doing, IsFileFault}
 use Rattle.file_commands.specs.Runs.{EndsTask}
 use Rattle.file_commands.specs.Events.{NotHad, Opened}
@@ -81,11 +83,11 @@ pub refused_for : {D : Type 0} (model : Ghosts D) (done : Doing D) (put : List P
 refused_for model done put words given old new refused fault is none cause memory = inl (none, (refused, is, cause, λ task asked. is ∙ memory_alone refused (memory task asked)))
 
 -- a task that is no service ends so in a run
-pub at_rest : {D W : Type 0} (model : Ghosts D) (done : Doing D) (put : List Put → Type 0) (task : Task) (given : Known) (contents : W → Known) (old new : W) (r : Result Ended Fault) → EndsTask model done put task contents old new r
-    → Ends (λ ended before after. PrintedFor model done put task given ended before after) (λ fault. MayEnd model done put task given (contents old) (contents new) fault) contents old new r
-at_rest model done put (Serve device editors forwarders places live words) given contents old new (Ok ended) is = absurd is.printed
-at_rest model done put (Serve device editors forwarders places live words) given contents old new (Err fault) is = absurd is.fault
-at_rest model done put _ given contents old new r is = is
+pub at_rest : {D W : Type 0} (model : Ghosts D) (done : Doing D) (put : List Put → Type 0) (task : Task) (given : Known) (out : Stream W) (r : Result Ended Fault) → EndsTask (device_use model done) put task out r
+    → Ends (λ ended before after. PrintedFor model done put task given ended before after) (λ fault. MayEnd model done put task given (known_before out) (known_after out) fault) out.known out.old out.new r
+at_rest model done put (Serve device editors forwarders places live words) given out (Ok ended) is = absurd is.printed
+at_rest model done put (Serve device editors forwarders places live words) given out (Err fault) is = absurd is.fault
+at_rest model done put _ given out r is = is
 
 -- what holds behind each fault but the output's holds behind the one that was told
 pub told_behind : (P : Type 0) (told_old told_new : Known) (r : Result Ended Fault) (outcome : Outcome) → IsToldSo r told_old told_new outcome → IfErr r (λ fault. fault ≢ told.Output → P)
@@ -184,11 +186,12 @@ fresh_reader {T} remaining r from inner empty capacity =
 -- ---- a service over a script
 
 -- a fault that is handed on ends it
-pub script_ends : {D W : Type 0} (model : Ghosts D) (done : Doing D) (path : List ℕ) (given : Known) (editors : ℕ) (words : LandmarkWords) (contents : W → Known) (old new : W) (r : Result Ended Fault) (fault : Fault)
-    → IsErrAnd r (λ e. e ≡ fault) → EndsServe model done path given editors words (contents old) (contents new) fault → (fault ≢ told.Output → new ≡ old) → EndsScript model done path given editors words contents old new r
-script_ends model done path given editors words contents old new (Ok ended) fault is why kept = absurd is
-script_ends model done path given editors words contents old new (Err e) fault is why kept = record {
+pub script_ends : {D W : Type 0} (model : Ghosts D) (done : Doing D) (service : Service) (given : Known) (out : Stream W) (r : Result Ended Fault) (fault : Fault)
+    → IsErrAnd r (λ e. e ≡ fault) → EndsServe model done service.device.now given service.config.editors service.words (known_before out) (known_after out) fault → (fault ≢ told.Output → out.new ≡ out.old)
+    → EndsScript (device_use model done) service given out r
+script_ends model done service given out (Ok ended) fault is why kept = absurd is
+script_ends model done service given out (Err e) fault is why kept = record {
   printed = tt;
-  fault = subst (λ (f : Fault). EndsServe model done path given editors words (contents old) (contents new) f) (sym is) why;
-  untouched = subst (λ (f : Fault). f ≢ told.Output → new ≡ old) (sym is) kept;
+  fault = subst (λ (f : Fault). EndsServe model done service.device.now given service.config.editors service.words (known_before out) (known_after out) f) (sym is) why;
+  untouched = subst (λ (f : Fault). f ≢ told.Output → out.new ≡ out.old) (sym is) kept;
 }

@@ -25,7 +25,9 @@ use Rattle.file_commands.specs.Printed.{PrintedAlone, PrintedAtRest, PrintedTabl
 use Rattle.file_commands.specs.Tasks.{IsService}
 use Rattle.commands.specs.declared.outcome.Outcome.{Outcome}
 use Rattle.commands.specs.declared.outcome.Outcome.TheVariants.{Answered, Told, Untold}
+use Rattle.commands.specs.declared.service.Service.{Service}
 use Rattle.commands.specs.declared.streams.Streams.{Streams}
+use Rattle.file_commands.specs.Uses.{DeviceUse, Stream, known_after, known_before}
 use Rattle.commands.specs.Serves.{AskLive, AskService, AskTables, EndsLive, IsLiveService, MayEndServing, PrintedServing, PrintsLive}
 
 -- ---- what is printed, and why a run ends
@@ -133,33 +135,31 @@ streams_of script out err = record { script = script; out = out; err = err }
 
 -- What a run promises over its streams.
 pub record Runs {R W E : Type 0} (EndsSo : Known → Known → Known → Known → Known → Outcome → Type 0) (IsLive MayRead : Type 0)
-    (remaining : R → Known) (contents : W → Known) (shown : E → Known) (old new : Streams R W E) (result : Outcome) : Type 0 where
+    (streams : Streams (Stream R) (Stream W) (Stream E)) (result : Outcome) : Type 0 where
   -- what is asked for was answered on the writer, or a fault that may end it was told on the other one
-  pub outcome : EndsSo (remaining old.script) (contents old.out) (contents new.out) (shown old.err) (shown new.err) result
+  pub outcome : EndsSo (known_before streams.script) (known_before streams.out) (known_after streams.out) (known_before streams.err) (known_after streams.err) result
   -- only where the output failed, or for a live service, is anything printed before a fault
-  pub untouched : ¬ IsLive → UnlessOutput result (new.out ≡ old.out)
+  pub untouched : ¬ IsLive → UnlessOutput result (streams.out.new ≡ streams.out.old)
   -- what the reader gives is left alone, but for a service
-  pub unread : ¬ MayRead → new.script ≡ old.script
+  pub unread : ¬ MayRead → streams.script.new ≡ streams.script.old
 
 -- so runs what these words ask for
-abbrev pub RunsWords : {D R W E : Type 0} → Ghosts D → Doing D → (List Put → Type 0) → List Text
-    → (R → Known) → (W → Known) → (E → Known) → Streams R W E → Streams R W E → Outcome → Type 0
-RunsWords model done put words remaining contents shown old new result =
-    Runs (λ given before after told_before told_after outcome. IsOutcome model done put words given before after told_before told_after outcome)
-    (AskLive words) (AskService words) remaining contents shown old new result
+abbrev pub RunsWords : {D R W E : Type 0} → DeviceUse D → (List Put → Type 0) → List Text → Streams (Stream R) (Stream W) (Stream E) → Outcome → Type 0
+RunsWords devices put words streams result =
+    Runs (λ given before after told_before told_after outcome. IsOutcome devices.model devices.done put words given before after told_before told_after outcome)
+    (AskLive words) (AskService words) streams result
 
 -- and a task
-abbrev pub RunsTask : {D R W E : Type 0} → Ghosts D → Doing D → (List Put → Type 0) → Task
-    → (R → Known) → (W → Known) → (E → Known) → Streams R W E → Streams R W E → Outcome → Type 0
-RunsTask model done put task remaining contents shown old new result =
-    Runs (λ given before after told_before told_after outcome. IsOutcomeOf model done put task given before after told_before told_after outcome)
-    (IsLiveService task) (IsService task) remaining contents shown old new result
+abbrev pub RunsTask : {D R W E : Type 0} → DeviceUse D → (List Put → Type 0) → Task → Streams (Stream R) (Stream W) (Stream E) → Outcome → Type 0
+RunsTask devices put task streams result =
+    Runs (λ given before after told_before told_after outcome. IsOutcomeOf devices.model devices.done put task given before after told_before told_after outcome)
+    (IsLiveService task) (IsService task) streams result
 
 -- and a live service
-abbrev pub RunsLive : {D R W E : Type 0} → Ghosts D → Doing D → List ℕ → ℕ → LandmarkWords
-    → (R → Known) → (W → Known) → (E → Known) → Streams R W E → Streams R W E → Outcome → Type 0
-RunsLive model done path editors words remaining contents shown old new result =
-    IsLiveOutcome model done path (remaining old.script) editors words (contents old.out) (contents new.out) (shown old.err) (shown new.err) result
+abbrev pub RunsLive : {D R W E : Type 0} → DeviceUse D → Service → Streams (Stream R) (Stream W) (Stream E) → Outcome → Type 0
+RunsLive devices service streams result =
+    IsLiveOutcome devices.model devices.done service.device.now (known_before streams.script) service.config.editors service.words
+    (known_before streams.out) (known_after streams.out) (known_before streams.err) (known_after streams.err) result
 
 -- no file was put, but by `tables` and for a live service
 abbrev pub PutsOnlyAsked : {T : Type 0} → List Text → (T → List Put) → T → T → Type 0
@@ -171,44 +171,44 @@ MakesOnlyLive words events old new = ¬ AskLive words → events new ≡ events 
 
 -- What the exit status of a run says: `Answers` of what is printed by a task that ends so, and `MayFail` of the faults that may end it.
 pub record Says {D R W : Type 0} (done : Doing D) (words : List Text) (Answers : Task → Known → Ended → Known → Known → Type 0) (MayFail : Task → Known → Known → Known → Fault → Type 0)
-    (remaining : R → Known) (contents : W → Known) (script script_new : R) (out out_new : W) (code : ℕ) : Type 0 where
+    (script : Stream R) (out : Stream W) (code : ℕ) : Type 0 where
   -- there are three of them
   pub status : code ≤ 2
   -- 0: the answer was printed
-  pub answered : code ≡ 0 → OfTask words (λ task. Answers task (remaining script) Done (contents out) (contents out_new))
+  pub answered : code ≡ 0 → OfTask words (λ task. Answers task (known_before script) Done (known_before out) (known_after out))
   -- 1: the answer is no, or one of the faults of the words' task ended the run; only where the output failed may a part be printed.
   -- A live service has printed answers by then.
-  pub refused : code ≡ 1 → OfTask words (λ task. Answers task (remaining script) Refused (contents out) (contents out_new))
-      ⊎ ((fault : Fault) × ¬ IsNotUnderstood fault × IsFaultBy done words (λ task why. MayFail task (remaining script) (contents out) (contents out_new) why) fault
-      × (¬ AskLive words → fault ≢ told.Output → out_new ≡ out))
+  pub refused : code ≡ 1 → OfTask words (λ task. Answers task (known_before script) Refused (known_before out) (known_after out))
+      ⊎ ((fault : Fault) × ¬ IsNotUnderstood fault × IsFaultBy done words (λ task why. MayFail task (known_before script) (known_before out) (known_after out) why) fault
+      × (¬ AskLive words → fault ≢ told.Output → out.new ≡ out.old))
   -- 2: words and scripts that aren't understood print nothing, and the fault says so
-  pub not_understood : code ≡ 2 → (¬ AskLive words → out_new ≡ out)
-      × ((fault : Fault) × IsNotUnderstood fault × IsFaultBy done words (λ task why. MayFail task (remaining script) (contents out) (contents out_new) why) fault)
+  pub not_understood : code ≡ 2 → (¬ AskLive words → out.new ≡ out.old)
+      × ((fault : Fault) × IsNotUnderstood fault × IsFaultBy done words (λ task why. MayFail task (known_before script) (known_before out) (known_after out) why) fault)
   -- what the reader gives is left alone, but for a service
-  pub unread : ¬ AskService words → script_new ≡ script
+  pub unread : ¬ AskService words → script.new ≡ script.old
 
 -- so it is of any task
-abbrev pub SaysAll : {D R W : Type 0} → Ghosts D → Doing D → (List Put → Type 0) → List Text → (R → Known) → (W → Known) → R → R → W → W → ℕ → Type 0
-SaysAll model done put words = Says done words (PrintedFor model done put) (MayEnd model done put)
+abbrev pub SaysAll : {D R W : Type 0} → DeviceUse D → (List Put → Type 0) → List Text → Stream R → Stream W → ℕ → Type 0
+SaysAll devices put words = Says devices.done words (PrintedFor devices.model devices.done put) (MayEnd devices.model devices.done put)
 
 -- The same in four: words ask for one command, and of the commands of the others each of these says nothing. First of those that put no files;
-abbrev pub SaysAlone : {D R W : Type 0} → Ghosts D → Doing D → List Text → (R → Known) → (W → Known) → R → R → W → W → ℕ → Type 0
-SaysAlone model done words = Says done words (λ task given. PrintedAlone model done task) (λ task given old new. MayEndAlone model done task)
+abbrev pub SaysAlone : {D R W : Type 0} → DeviceUse D → List Text → Stream R → Stream W → ℕ → Type 0
+SaysAlone devices words = Says devices.done words (λ task given. PrintedAlone devices.model devices.done task) (λ task given old new. MayEndAlone devices.model devices.done task)
 
 -- .. then of `tables`
-abbrev pub SaysTables : {D R W : Type 0} → Ghosts D → Doing D → (List Put → Type 0) → List Text → (R → Known) → (W → Known) → R → R → W → W → ℕ → Type 0
-SaysTables model done put words = Says done words (λ task given. PrintedTables model done put task) (λ task given old new. MayEndTables model done put task)
+abbrev pub SaysTables : {D R W : Type 0} → DeviceUse D → (List Put → Type 0) → List Text → Stream R → Stream W → ℕ → Type 0
+SaysTables devices put words = Says devices.done words (λ task given. PrintedTables devices.model devices.done put task) (λ task given old new. MayEndTables devices.model devices.done put task)
 
 -- A fault ended what these words ask for: memory ran out while they were read, and no device was opened, or the service ended by it.
 abbrev pub IsServingFault : {D : Type 0} → Ghosts D → Doing D → List Text → Known → Known → Known → Fault → Type 0
 IsServingFault model done words given old new fault = (done [] × (fault ≡ told.Memory)) ⊎ OfTask words (λ task. MayEndServing model done task given old new fault)
 
 -- .. and last of `serve`. Of words that are no task, and of what the reader gives, the first one speaks. With 0 its answer was printed;
-abbrev pub SaysServing : {D R W : Type 0} → Ghosts D → Doing D → List Text → (R → Known) → (W → Known) → R → W → W → ℕ → Type 0
-SaysServing model done words remaining contents script out out_new code =
-    code ≡ 0 → OfTask words (λ task. PrintedServing model done task (remaining script) Done (contents out) (contents out_new))
+abbrev pub SaysServing : {D R W : Type 0} → DeviceUse D → List Text → Stream R → Stream W → ℕ → Type 0
+SaysServing devices words script out code =
+    code ≡ 0 → OfTask words (λ task. PrintedServing devices.model devices.done task (known_before script) Done (known_before out) (known_after out))
 
 -- .. with another status a fault ended it, where the words ask for it
-pub record StopsServing {D R W : Type 0} (model : Ghosts D) (done : Doing D) (words : List Text) (remaining : R → Known) (contents : W → Known) (script : R) (out out_new : W) (code : ℕ) : Type 0 where
-  pub refused : code ≡ 1 → AskService words → (fault : Fault) × ¬ IsNotUnderstood fault × IsServingFault model done words (remaining script) (contents out) (contents out_new) fault × (¬ AskLive words → fault ≢ told.Output → out_new ≡ out)
-  pub not_understood : code ≡ 2 → AskService words → (fault : Fault) × IsNotUnderstood fault × IsServingFault model done words (remaining script) (contents out) (contents out_new) fault
+pub record StopsServing {D R W : Type 0} (devices : DeviceUse D) (words : List Text) (script : Stream R) (out : Stream W) (code : ℕ) : Type 0 where
+  pub refused : code ≡ 1 → AskService words → (fault : Fault) × ¬ IsNotUnderstood fault × IsServingFault devices.model devices.done words (known_before script) (known_before out) (known_after out) fault × (¬ AskLive words → fault ≢ told.Output → out.new ≡ out.old)
+  pub not_understood : code ≡ 2 → AskService words → (fault : Fault) × IsNotUnderstood fault × IsServingFault devices.model devices.done words (known_before script) (known_before out) (known_after out) fault

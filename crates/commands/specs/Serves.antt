@@ -27,6 +27,8 @@ use Rattle.file_commands.specs.declared.devices.Access.TheVariants.{ToChange}
 use Rattle.file_commands.specs.Devices.{Doing, IsFileFault}
 use Rattle.file_commands.specs.Events.{Closed, Event, NotHad, Opened}
 use Rattle.file_commands.specs.Tasks.{HasSession, IsOfTables, IsService}
+use Rattle.commands.specs.declared.service.Service.{Service}
+use Rattle.file_commands.specs.Uses.{DeviceUse, Stream, known_after, known_before}
 
 -- ---- the script
 
@@ -142,8 +144,8 @@ PrintedServing model done (Serve device editors forwarders places (Some rounds) 
 PrintedServing model done task given ended old new = Unit {0}
 
 -- `serve` over a script
-abbrev pub EndsScript : {D W : Type 0} → Ghosts D → Doing D → List ℕ → Known → ℕ → LandmarkWords
-    → (W → Known) → W → W → Result Ended Fault → Type 0
-EndsScript model done path given editors words contents old new result =
-    Ends (λ ended before after. PrintsServed model done path given editors ended before after)
-    (λ fault. EndsServe model done path given editors words (contents old) (contents new) fault) contents old new result
+abbrev pub EndsScript : {D W : Type 0} → DeviceUse D → Service → Known → Stream W → Result Ended Fault → Type 0
+EndsScript devices service given out result =
+    Ends (λ ended before after. PrintsServed devices.model devices.done service.device.now given service.config.editors ended before after)
+    (λ fault. EndsServe devices.model devices.done service.device.now given service.config.editors service.words (known_before out) (known_after out) fault)
+    out.known out.old out.new result

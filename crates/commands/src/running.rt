@@ -8,6 +8,7 @@ ghost use Rattle.file_commands.specs.Tasks.{IsOfTables};
 ghost use Rattle.table_files.specs.Files.{PutBy};
 ghost use Rattle.commands.specs.Serves.{IsLiveService, MayRun};
 ghost use Rattle.commands.specs.Runs.{AnyPut, MakesOnlyLive, PutsOnlyAsked, RunsTask, RunsWords, SaysAll, SaysAlone, SaysServing, SaysTables, StopsServing, streams_of, words_fault};
+ghost use Rattle.file_commands.specs.Uses.{device_use, stream};
 
 use crate::outcome::{Outcome, told};
 use crate::service::{LiveService, Service, run_live, run_serve};
@@ -44,17 +45,17 @@ where
     S: Read + Send,
     O: Write,
     E: Write,
-    ensures says { SaysAlone ⟦<DeviceFile as Disk>⟧ AreFiles (texts words.now)
-        S.remaining O.contents script.old script.new out.old out.new result }
+    ensures says { SaysAlone (device_use ⟦<DeviceFile as Disk>⟧ AreFiles) (texts words.now)
+        (stream S.remaining script.old script.new) (stream O.contents out.old out.new) result }
 
-    ensures tables { SaysTables ⟦<DeviceFile as Disk>⟧ AreFiles AnyPut (texts words.now)
-        S.remaining O.contents script.old script.new out.old out.new result }
+    ensures tables { SaysTables (device_use ⟦<DeviceFile as Disk>⟧ AreFiles) AnyPut (texts words.now)
+        (stream S.remaining script.old script.new) (stream O.contents out.old out.new) result }
 
-    ensures serves { SaysServing ⟦<DeviceFile as Disk>⟧ AreFiles (texts words.now)
-        S.remaining O.contents script.old out.old out.new result }
+    ensures serves { SaysServing (device_use ⟦<DeviceFile as Disk>⟧ AreFiles) (texts words.now)
+        (stream S.remaining script.old script.new) (stream O.contents out.old out.new) result }
 
-    ensures stops { StopsServing ⟦<DeviceFile as Disk>⟧ AreFiles (texts words.now)
-        S.remaining O.contents script.old out.old out.new result }
+    ensures stops { StopsServing (device_use ⟦<DeviceFile as Disk>⟧ AreFiles) (texts words.now)
+        (stream S.remaining script.old script.new) (stream O.contents out.old out.new) result }
 {
     run_words_at(rt, &mut rt.place(), words, script, out, err)
 }
@@ -75,8 +76,8 @@ where
     S: Read + Send,
     O: Write,
     E: Write,
-    ensures says { SaysAll ⟦<DeviceFile as Disk>⟧ AreFiles (PutBy T.puts tables.old tables.new) (texts words.now)
-        S.remaining O.contents script.old script.new out.old out.new result }
+    ensures says { SaysAll (device_use ⟦<DeviceFile as Disk>⟧ AreFiles) (PutBy T.puts tables.old tables.new) (texts words.now)
+        (stream S.remaining script.old script.new) (stream O.contents out.old out.new) result }
 
     ensures unput { PutsOnlyAsked (texts words.now) T.puts tables.old tables.new }
 {
@@ -107,9 +108,11 @@ where
     S: Read + Send,
     O: Write,
     E: FaultWriter,
-    ensures runs { RunsWords P.Devices.Device.Disk (HasDone P.Devices.opened P.Devices.events at.entry.devices.now at.exit.0.now)
+    ensures runs { RunsWords
+        (device_use P.Devices.Device.Disk (HasDone P.Devices.opened P.Devices.events at.entry.devices.now at.exit.0.now))
         (PutBy P.Tables.puts at.entry.tables.now at.exit.1.1.0.now) (texts words.now)
-        S.remaining O.contents E.contents streams.old streams.new result }
+        (streams_of (stream S.remaining streams.old.script streams.new.script)
+        (stream O.contents streams.old.out streams.new.out) (stream E.contents streams.old.err streams.new.err)) result }
 
     // A fault that wasn't told couldn't be: a write of this writer has failed.
     ensures untold { (fault : Fault) → result ≡ Outcome.Untold fault → IsTrue (E.has_failed streams.new.err) }
@@ -140,10 +143,12 @@ where
     S: Read + Send,
     O: Write,
     E: FaultWriter,
-    ensures runs { RunsWords P.Devices.Device.Disk (HasDone P.Devices.opened P.Devices.events at.entry.devices.now at.exit.0.now)
+    ensures runs { RunsWords
+        (device_use P.Devices.Device.Disk (HasDone P.Devices.opened P.Devices.events at.entry.devices.now at.exit.0.now))
         (PutBy P.Tables.puts at.entry.tables.now at.exit.1.1.0.now) (texts words.now)
-        S.remaining O.contents E.contents (streams_of streams.entry.script.now streams.entry.out.now streams.entry.err.now)
-        (streams_of streams.exit.0.now streams.exit.1.0.now streams.exit.1.1.0.now) result }
+        (streams_of (stream S.remaining streams.entry.script.now streams.exit.0.now)
+        (stream O.contents streams.entry.out.now streams.exit.1.0.now)
+        (stream E.contents streams.entry.err.now streams.exit.1.1.0.now)) result }
 
     ensures untold { (fault : Fault) → result ≡ Outcome.Untold fault → IsTrue (E.has_failed streams.exit.1.1.0.now) }
 
@@ -172,10 +177,12 @@ where
     O: Write,
     E: FaultWriter,
     requires { MayRun task }
-    ensures runs { RunsTask P.Devices.Device.Disk (HasDone P.Devices.opened P.Devices.events at.entry.devices.now at.exit.0.now)
+    ensures runs { RunsTask
+        (device_use P.Devices.Device.Disk (HasDone P.Devices.opened P.Devices.events at.entry.devices.now at.exit.0.now))
         (PutBy P.Tables.puts at.entry.tables.now at.exit.1.1.0.now) task.entry
-        S.remaining O.contents E.contents (streams_of streams.entry.script.now streams.entry.out.now streams.entry.err.now)
-        (streams_of streams.exit.0.now streams.exit.1.0.now streams.exit.1.1.0.now) result }
+        (streams_of (stream S.remaining streams.entry.script.now streams.exit.0.now)
+        (stream O.contents streams.entry.out.now streams.exit.1.0.now)
+        (stream E.contents streams.entry.err.now streams.exit.1.1.0.now)) result }
 
     ensures untold { (fault : Fault) → result ≡ Outcome.Untold fault → IsTrue (E.has_failed streams.exit.1.1.0.now) }
 

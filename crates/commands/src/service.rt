@@ -6,6 +6,7 @@ ghost use Rattle.committer_thread.specs.Config.{IsServiceConfig};
 ghost use Rattle.file_commands.specs.Events.{HasDone};
 ghost use Rattle.commands.specs.Serves.{EndsScript, IsReadFault, IsScriptFault, IsScriptOf, closing};
 ghost use Rattle.commands.specs.Runs.{IsEndOf, RunsLive, streams_of};
+ghost use Rattle.file_commands.specs.Uses.{device_use, stream};
 
 use crate::clocked_gate::ClockedGate;
 use crate::outcome::{Outcome, told};
@@ -95,8 +96,8 @@ where
     S: Read,
     O: Write,
     requires { IsServiceConfig service.config }
-    ensures { EndsScript F.Device.Disk (HasDone F.opened F.events devices.old devices.new) service.entry.device.now
-        (S.remaining script.old) service.entry.config.editors service.entry.words O.contents out.old out.new result }
+    ensures { EndsScript (device_use F.Device.Disk (HasDone F.opened F.events devices.old devices.new)) service.entry
+        (S.remaining script.old) (stream O.contents out.old out.new) result }
 {
     let Service {
         device,
@@ -147,11 +148,12 @@ where
     O: Write,
     E: FaultWriter,
     requires { IsServiceConfig live.service.config }
-    ensures runs { RunsLive P.Devices.Device.Disk (HasDone P.Devices.opened P.Devices.events at.entry.devices.now at.exit.0.now)
-        live.entry.service.device.now
-        live.entry.service.config.editors live.entry.service.words S.remaining O.contents E.contents
-        (streams_of streams.entry.script.now streams.entry.out.now streams.entry.err.now)
-        (streams_of streams.exit.0.now streams.exit.1.0.now streams.exit.1.1.0.now) result }
+    ensures runs { RunsLive
+        (device_use P.Devices.Device.Disk (HasDone P.Devices.opened P.Devices.events at.entry.devices.now at.exit.0.now))
+        live.entry.service
+        (streams_of (stream S.remaining streams.entry.script.now streams.exit.0.now)
+        (stream O.contents streams.entry.out.now streams.exit.1.0.now)
+        (stream E.contents streams.entry.err.now streams.exit.1.1.0.now)) result }
 
     ensures untold { (fault : Fault) → result ≡ Outcome.Untold fault → IsTrue (E.has_failed streams.exit.1.1.0.now) }
 {

@@ -44,6 +44,7 @@ use Rattle.file_commands.specs.Printed.{PrintsCheck, PrintsCopied, PrintsListing
 use Rattle.file_commands.specs.Runs.{EndsAfter, EndsAt, EndsOn, EndsTask, EndsTaskOn, EndsTransferAt, EndsTransferOn}
 use Rattle.file_commands.specs.Tasks.{IsOfTwo, IsService}
 use Rattle.file_commands.specs.SchemeAnswers.{AreRoutesOf, checks_text, ended_after, ended_at, routes_text}
+use Rattle.file_commands.specs.Uses.{Stream, Views, device_use, known_after, known_before, stream, views}
 
 -- ---- what was printed
 
@@ -197,12 +198,12 @@ copy_end (Err fault) from from_left to to_left named tells wrong device = record
 }
 
 -- so ends a command whose answer, as it was given of a device, is printed or told
-pub ends_on : {D X W : Type 0} (model : Ghosts D) (LeavesSo : DiskView → DiskView → Type 0) (Prints : Printing) (MayFail : Ending) (disk : D) (given : Result X Fault × D) (back : D) (ended_of : X → Ended) (text_of : X → List ℕ) (contents : W → Known) (old new : W) (r : Result Ended Fault)
-    → EndsAfter given.0 ended_of text_of contents old new r → back ≡ given.1 → IsSameDevice (model.view disk) (model.view given.1) → LeavesSo (model.view disk) (model.view given.1)
-    → (IfOk r (λ ended. IsOkAnd given.0 (λ x. (ended ≡ ended_of x) × Appends (contents old) (contents new) (text_of x))) → IfOk r (λ ended. Prints (model.view disk) (model.view given.1) ended (contents old) (contents new)))
-    → IfErr given.0 (λ fault. MayFail (model.view disk) (model.view given.1) fault) → EndsOn LeavesSo Prints (OrOutput MayFail) (model.view disk) (model.view back) contents old new r
-ends_on model LeavesSo Prints MayFail disk given back ended_of text_of contents old new r after same ran leaves printed fails =
-    subst (λ d. EndsOn LeavesSo Prints (OrOutput MayFail) (model.view disk) (model.view d) contents old new r) (sym same)
+pub ends_on : {D X W : Type 0} (model : Ghosts D) (LeavesSo : DiskView → DiskView → Type 0) (Prints : Printing) (MayFail : Ending) (disk : D) (given : Result X Fault × D) (back : D) (ended_of : X → Ended) (text_of : X → List ℕ) (out : Stream W) (r : Result Ended Fault)
+    → EndsAfter given.0 ended_of text_of out r → back ≡ given.1 → IsSameDevice (model.view disk) (model.view given.1) → LeavesSo (model.view disk) (model.view given.1)
+    → (IfOk r (λ ended. IsOkAnd given.0 (λ x. (ended ≡ ended_of x) × Appends (known_before out) (known_after out) (text_of x))) → IfOk r (λ ended. Prints (model.view disk) (model.view given.1) ended (known_before out) (known_after out)))
+    → IfErr given.0 (λ fault. MayFail (model.view disk) (model.view given.1) fault) → EndsOn LeavesSo Prints (OrOutput MayFail) (views (model.view disk) (model.view back)) out r
+ends_on model LeavesSo Prints MayFail disk given back ended_of text_of out r after same ran leaves printed fails =
+    subst (λ d. EndsOn LeavesSo Prints (OrOutput MayFail) (views (model.view disk) (model.view d)) out r) (sym same)
     (record {
       ran = ran;
       leaves = leaves;
@@ -239,9 +240,9 @@ closed opened events old mid new path access disk left was first second = record
 }
 
 -- a task that ends so on the device that was opened ends so on the device by its path
-pub ends_at : {D W : Type 0} (model : Ghosts D) (done : Doing D) (put : List Put → Type 0) (task : Task) (path : List ℕ) (access : Access) (contents : W → Known) (old new : W) (disk left : D) (r : Result Ended Fault)
-    → path ≡ device_of task → access ≡ access_of task → done (Opened path access disk ∷ Closed left ∷ []) → EndsTaskOn put task (model.view disk) (model.view left) contents old new r → EndsAt model done put task contents old new r
-ends_at model done put task path access contents old new disk left (Ok ended) here so did is = record {
+pub ends_at : {D W : Type 0} (model : Ghosts D) (done : Doing D) (put : List Put → Type 0) (task : Task) (path : List ℕ) (access : Access) (out : Stream W) (disk left : D) (r : Result Ended Fault)
+    → path ≡ device_of task → access ≡ access_of task → done (Opened path access disk ∷ Closed left ∷ []) → EndsTaskOn put task (views (model.view disk) (model.view left)) out r → EndsAt (device_use model done) put task out r
+ends_at model done put task path access out disk left (Ok ended) here so did is = record {
   printed = record {
     disk = disk;
     left = left;
@@ -252,7 +253,7 @@ ends_at model done put task path access contents old new disk left (Ok ended) he
   fault = tt;
   untouched = tt;
 }
-ends_at model done put task path access contents old new disk left (Err fault) here so did is = record {
+ends_at model done put task path access out disk left (Err fault) here so did is = record {
   printed = tt;
   fault = inr (record {
     disk = disk;
@@ -266,7 +267,7 @@ ends_at model done put task path access contents old new disk left (Err fault) h
 
 -- and one whose device can't be had tells that
 pub ends_early : {D W : Type 0} (model : Ghosts D) (done : Doing D) (put : List Put → Type 0) (task : Task) (path : List ℕ) (access : Access) (contents : W → Known) (old : W) (r : Result Ended Fault) (fault : Fault)
-    → path ≡ device_of task → access ≡ access_of task → IsErrAnd r (λ e. e ≡ fault) → done (NotHad path access ∷ []) → put [] → IsFileFault fault → EndsAt model done put task contents old old r
+    → path ≡ device_of task → access ≡ access_of task → IsErrAnd r (λ e. e ≡ fault) → done (NotHad path access ∷ []) → put [] → IsFileFault fault → EndsAt (device_use model done) put task (stream contents old old) r
 ends_early model done put task path access contents old (Ok ended) fault here so is did none why = absurd is
 ends_early model done put task path access contents old (Err e) fault here so is did none why = record {
   printed = tt;
@@ -279,17 +280,17 @@ ends_early model done put task path access contents old (Err e) fault here so is
 }
 
 -- so ends a task on one device
-pub one_device : {D W : Type 0} (model : Ghosts D) (done : Doing D) (put : List Put → Type 0) (task : Task) (contents : W → Known) (old new : W) (r : Result Ended Fault) → ¬ IsService task → ¬ IsOfTwo task → EndsAt model done put task contents old new r
-    → EndsTask model done put task contents old new r
-one_device model done put (Migrate device made) contents old new r batch alone is = absurd (alone tt)
-one_device model done put (Copy device made) contents old new r batch alone is = absurd (alone tt)
-one_device model done put (Serve device editors forwarders places live words) contents old new r batch alone is = absurd (batch tt)
-one_device model done put _ contents old new r batch alone is = is
+pub one_device : {D W : Type 0} (model : Ghosts D) (done : Doing D) (put : List Put → Type 0) (task : Task) (out : Stream W) (r : Result Ended Fault) → ¬ IsService task → ¬ IsOfTwo task → EndsAt (device_use model done) put task out r
+    → EndsTask (device_use model done) put task out r
+one_device model done put (Migrate device made) out r batch alone is = absurd (alone tt)
+one_device model done put (Copy device made) out r batch alone is = absurd (alone tt)
+one_device model done put (Serve device editors forwarders places live words) out r batch alone is = absurd (batch tt)
+one_device model done put _ out r batch alone is = is
 
 -- a task that is asked for ends as the one that it is
-pub on_task : {W : Type 0} (put : List Put → Type 0) (task shape : Task) (disk left : DiskView) (contents : W → Known) (old new : W) (r : Result Ended Fault) → task ≡ shape
-    → EndsTaskOn put shape disk left contents old new r → EndsTaskOn put task disk left contents old new r
-on_task put task shape disk left contents old new r is ends = subst (λ (t : Task). EndsTaskOn put t disk left contents old new r) (sym is) ends
+pub on_task : {W : Type 0} (put : List Put → Type 0) (task shape : Task) (device : Views) (out : Stream W) (r : Result Ended Fault) → task ≡ shape
+    → EndsTaskOn put shape device out r → EndsTaskOn put task device out r
+on_task put task shape device out r is ends = subst (λ (t : Task). EndsTaskOn put t device out r) (sym is) ends
 
 -- ---- two devices
 
@@ -323,15 +324,15 @@ both opened events e₀ e₁ e₂ e₃ e₄ from_path to_path from to from_left 
 }
 
 -- a task of two devices ends so by two paths
-pub transferred_at : {D W : Type 0} (model : Ghosts D) (done : Doing D) (transfer : Transfer) (from_path to_path : List ℕ) (contents : W → Known) (old new : W) (from to from_left to_left : D) (r : Result Ended Fault)
-    → done (Opened from_path ToRead from ∷ Opened to_path New to ∷ Closed from_left ∷ Closed to_left ∷ []) → EndsTransferOn transfer (model.view from) (model.view from_left) (model.view to) (model.view to_left) contents old new r
-    → EndsTransferAt model done transfer from_path to_path contents old new r
-transferred_at model done transfer from_path to_path contents old new from to from_left to_left (Ok ended) did is = record {
+pub transferred_at : {D W : Type 0} (model : Ghosts D) (done : Doing D) (transfer : Transfer) (from_path to_path : List ℕ) (out : Stream W) (from to from_left to_left : D) (r : Result Ended Fault)
+    → done (Opened from_path ToRead from ∷ Opened to_path New to ∷ Closed from_left ∷ Closed to_left ∷ []) → EndsTransferOn transfer (views (model.view from) (model.view from_left)) (views (model.view to) (model.view to_left)) out r
+    → EndsTransferAt (device_use model done) transfer from_path to_path out r
+transferred_at model done transfer from_path to_path out from to from_left to_left (Ok ended) did is = record {
   printed = record { from = from; to = to; from_left = from_left; to_left = to_left; did = did; ran = is.ran; holds = (is.leaves, is.ends.printed) };
   fault = tt;
   untouched = tt;
 }
-transferred_at model done transfer from_path to_path contents old new from to from_left to_left (Err fault) did is = record {
+transferred_at model done transfer from_path to_path out from to from_left to_left (Err fault) did is = record {
   printed = tt;
   fault = inr (record { from = from; to = to; from_left = from_left; to_left = to_left; did = did; ran = is.ran; holds = (is.leaves, is.ends.fault) });
   untouched = is.ends.untouched;
@@ -339,7 +340,7 @@ transferred_at model done transfer from_path to_path contents old new from to fr
 
 -- and one of whose devices can't be had tells that
 pub not_transferred : {D W : Type 0} (model : Ghosts D) (done : Doing D) (transfer : Transfer) (from_path to_path : List ℕ) (contents : W → Known) (old : W) (r : Result Ended Fault) (fault : Fault)
-    → IsErrAnd r (λ e. e ≡ fault) → done (NotHad from_path ToRead ∷ []) ⊎ OfFirst done from_path to_path → IsFileFault fault → EndsTransferAt model done transfer from_path to_path contents old old r
+    → IsErrAnd r (λ e. e ≡ fault) → done (NotHad from_path ToRead ∷ []) ⊎ OfFirst done from_path to_path → IsFileFault fault → EndsTransferAt (device_use model done) transfer from_path to_path (stream contents old old) r
 not_transferred model done transfer from_path to_path contents old (Ok ended) fault is did why = absurd is
 not_transferred model done transfer from_path to_path contents old (Err e) fault is did why = record {
   printed = tt;

@@ -16,6 +16,7 @@ use Rattle.file_commands.specs.Printed.{PrintsTables}
 use Rattle.file_commands.specs.Queries.{AnswersOf, IsSchemeIn}
 use Rattle.file_commands.specs.Runs.{EndsPutFound}
 use Rattle.file_commands.specs.SchemeAnswers.{IsSchemeBy}
+use Rattle.file_commands.specs.Uses.{Stream}
 use Rattle.file_commands.proofs.Faults.{each_fault}
 use Rattle.file_commands.proofs.OnDevices.{asking_end}
 use Rattle.table_files.specs.Files.{Put}
@@ -29,10 +30,10 @@ scheme_by graph generation asked words (Ok p) within are is = record { within = 
 scheme_by graph generation asked words (Err e) within are is = tt
 
 -- tables of a scheme that was found are put so
-pub found_put : {W : Type 0} (answer : Result (ℕ × Parts) Fault) (found : ℕ × Parts) (folder named : List ℕ) (put : List Put → Type 0) (contents : W → Known) (old new : W) (r : Result Ended Fault) → answer ≡ Ok found
-    → EndsPutAsked found.1 folder named put contents old new r → EndsPutFound answer folder named put contents old new r
-found_put answer found folder named put contents old new r is ends =
-    subst (λ (a : Result (ℕ × Parts) Fault). EndsPutFound a folder named put contents old new r) (sym is)
+pub found_put : {W : Type 0} (answer : Result (ℕ × Parts) Fault) (found : ℕ × Parts) (folder named : List ℕ) (put : List Put → Type 0) (out : Stream W) (r : Result Ended Fault) → answer ≡ Ok found
+    → EndsPutAsked found.1 folder named put out.known out.old out.new r → EndsPutFound answer folder named put out r
+found_put answer found folder named put out r is ends =
+    subst (λ (a : Result (ℕ × Parts) Fault). EndsPutFound a folder named put out r) (sym is)
     (record { printed = ends.printed; fault = each_fault r (λ fault. EndsPutting found.1 folder named put fault) _ (λ fault why. inr why) ends.fault; untouched = ends.untouched })
 
 -- ---- on a device

@@ -7,3 +7,4 @@ pub mod Queries
 pub mod Runs
 pub mod SchemeAnswers
 pub mod Tasks
+pub mod Uses

@@ -7,6 +7,7 @@ ghost use Rattle.command_output.specs.declared.ended.Ended.TheVariants.{Done};
 ghost use Rattle.file_commands.specs.Copies.{copied_text};
 ghost use Rattle.file_commands.specs.Printed.{ended_by, verdict_text};
 ghost use Rattle.file_commands.specs.Runs.{EndsAfter};
+ghost use Rattle.file_commands.specs.Uses.{stream};
 
 use crate::copying::Copied;
 use command_output::{AcceptedLine, Ended, Fault, RefusedLine, print_line, print_text};
@@ -23,7 +24,7 @@ pub(crate) trait Answer: Drop {
 
     /// Prints it.
     fn print<O: Write>(self, out: &mut O) -> Result<Ended, Fault>
-        ensures { EndsAfter (Ok self) ended text O.contents out.old out.new result };
+        ensures { EndsAfter (Ok self) ended text (stream O.contents out.old out.new) result };
 }
 
 /// Prints what was answered of a device, which comes back, or hands on the fault.
@@ -31,7 +32,7 @@ pub(crate) fn printed<A: Answer, D, O: Write>(
     out: &mut O,
     answered: (Result<A, Fault>, D),
 ) -> (Result<Ended, Fault>, D)
-    ensures ends { EndsAfter answered.0 A.ended A.text O.contents out.old out.new result.0 }
+    ensures ends { EndsAfter answered.0 A.ended A.text (stream O.contents out.old out.new) result.0 }
     ensures back { result.1 ≡ answered.1 }
 {
     let (answer, disk) = answered;

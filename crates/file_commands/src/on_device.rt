@@ -6,6 +6,7 @@ ghost use Rattle.device_commands.specs.Openings.{IsOpenFault};
 ghost use Rattle.file_commands.specs.Endings.{IsFormatEnd, IsOnlyRead, IsReadingEnd, OrOutput};
 ghost use Rattle.file_commands.specs.Printed.{PrintsFormatted, PrintsTicket};
 ghost use Rattle.file_commands.specs.Runs.{EndsAfter, EndsOn, EndsTransferOn};
+ghost use Rattle.file_commands.specs.Uses.{stream, views};
 
 use crate::answers::printed;
 use crate::copying::copy_device;
@@ -20,8 +21,8 @@ pub(crate) fn format_on<D: Disk, O: Write>(
     nodes: u16,
     out: &mut O,
 ) -> Result<Ended, Fault>
-    ensures { EndsOn (λ _ _. Unit {0}) (PrintsFormatted nodes) (OrOutput (IsFormatEnd nodes)) (D.view disk.old) (D.view disk.new)
-        O.contents out.old out.new result }
+    ensures { EndsOn (λ _ _. Unit {0}) (PrintsFormatted nodes) (OrOutput (IsFormatEnd nodes)) (views (D.view disk.old) (D.view disk.new))
+        (stream O.contents out.old out.new) result }
 {
     device_commands::format(disk, nodes)?;
     print_line(out, Formatted { nodes })?;
@@ -36,8 +37,8 @@ pub(crate) fn resume_on<D: Disk, O: Write>(
     out: &mut O,
 ) -> (Result<Ended, Fault>, D)
     requires { session < sessions }
-    ensures { EndsOn IsOnlyRead (PrintsTicket session) (OrOutput (IsReadingEnd IsOpenFault)) (D.view disk) (D.view result.1)
-        O.contents out.old out.new result.0 }
+    ensures { EndsOn IsOnlyRead (PrintsTicket session) (OrOutput (IsReadingEnd IsOpenFault)) (views (D.view disk) (D.view result.1))
+        (stream O.contents out.old out.new) result.0 }
 {
     let (answer, disk) = device_commands::resume(alloc, disk, session);
     (print_ticket(out, session, answer), disk)
@@ -49,7 +50,7 @@ fn print_ticket<O: Write>(
     answer: Result<u64, Fault>,
 ) -> Result<Ended, Fault>
     ensures { EndsAfter answer (λ _. Ended.Done) (λ ticket. line (ticket_text session ticket))
-        O.contents out.old out.new result }
+        (stream O.contents out.old out.new) result }
 {
     let ticket = answer?;
     print_line(out, TicketLine { session, ticket })?;
@@ -73,8 +74,8 @@ pub(crate) fn transfer_on<D: Disk, N: Disk, O: Write>(
     new: &mut N,
     out: &mut O,
 ) -> (Result<Ended, Fault>, D)
-    ensures { EndsTransferOn transfer (D.view old) (D.view result.1) (N.view new.old) (N.view new.new)
-        O.contents out.old out.new result.0 }
+    ensures { EndsTransferOn transfer (views (D.view old) (D.view result.1)) (views (N.view new.old) (N.view new.new))
+        (stream O.contents out.old out.new) result.0 }
 {
     match transfer {
         Transfer::Migration => {
@@ -92,8 +93,8 @@ fn migrate_on<D: Disk, N: Disk, O: Write>(
     new: &mut N,
     out: &mut O,
 ) -> Result<Ended, Fault>
-    ensures { EndsTransferOn Transfer.Migration (D.view old.old) (D.view old.new) (N.view new.old) (N.view new.new)
-        O.contents out.old out.new result }
+    ensures { EndsTransferOn Transfer.Migration (views (D.view old.old) (D.view old.new)) (views (N.view new.old) (N.view new.new))
+        (stream O.contents out.old out.new) result }
 {
     let moved = device_commands::migrate(alloc, old, new)?;
     print_line(

@@ -4,6 +4,7 @@ ghost use Rattle.file_commands.specs.Endings.{access_of, device_of};
 ghost use Rattle.file_commands.specs.Events.{HasDone};
 ghost use Rattle.file_commands.specs.Runs.{EndsAt, EndsTask, EndsTaskOn, EndsTransferAt};
 ghost use Rattle.file_commands.specs.Tasks.{HasSession, IsOfTables, IsOfTwo, IsService};
+ghost use Rattle.file_commands.specs.Uses.{device_use, stream, views};
 ghost use Rattle.table_files.specs.Files.{PutBy};
 
 use crate::answers::printed;
@@ -37,8 +38,8 @@ where
     O: Write,
     requires batch { ¬ IsService task }
     requires session { HasSession task }
-    ensures ends { EndsTask F.Device.Disk (HasDone F.opened F.events devices.old devices.new)
-        (PutBy T.puts tables.old tables.new) task.entry O.contents out.old out.new result }
+    ensures ends { EndsTask (device_use F.Device.Disk (HasDone F.opened F.events devices.old devices.new))
+        (PutBy T.puts tables.old tables.new) task.entry (stream O.contents out.old out.new) result }
 
     ensures unput { ¬ IsOfTables task.entry → T.puts tables.new ≡ T.puts tables.old }
 {
@@ -69,8 +70,8 @@ where
     requires batch { ¬ IsService task }
     requires alone { ¬ IsOfTwo task }
     requires session { HasSession task }
-    ensures ends { EndsAt F.Device.Disk (HasDone F.opened F.events devices.old devices.new)
-        (PutBy T.puts tables.old tables.new) task.entry O.contents out.old out.new result }
+    ensures ends { EndsAt (device_use F.Device.Disk (HasDone F.opened F.events devices.old devices.new))
+        (PutBy T.puts tables.old tables.new) task.entry (stream O.contents out.old out.new) result }
 
     ensures unput { ¬ IsOfTables task.entry → T.puts tables.new ≡ T.puts tables.old }
 {
@@ -124,8 +125,8 @@ where
     requires batch { ¬ IsService task }
     requires alone { ¬ IsOfTwo task }
     requires session { HasSession task }
-    ensures ends { EndsTaskOn (PutBy T.puts tables.old tables.new) task.entry (D.view disk) (D.view result.1)
-        O.contents out.old out.new result.0 }
+    ensures ends { EndsTaskOn (PutBy T.puts tables.old tables.new) task.entry (views (D.view disk) (D.view result.1))
+        (stream O.contents out.old out.new) result.0 }
 
     ensures unput { ¬ IsOfTables task.entry → T.puts tables.new ≡ T.puts tables.old }
 {
@@ -168,8 +169,8 @@ fn run_transfer<F: Devices, O: Write>(
     new: &str,
     out: &mut O,
 ) -> Result<Ended, Fault>
-    ensures { EndsTransferAt F.Device.Disk (HasDone F.opened F.events devices.old devices.new) transfer old.now new.now
-        O.contents out.old out.new result }
+    ensures { EndsTransferAt (device_use F.Device.Disk (HasDone F.opened F.events devices.old devices.new)) transfer
+        old.now new.now (stream O.contents out.old out.new) result }
 {
     let from = devices.open(old, Access::ToRead)?;
     match devices.open(new, Access::New) {

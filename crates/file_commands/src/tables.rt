@@ -5,6 +5,7 @@ ghost use Rattle.file_commands.specs.Printed.{PrintsTables};
 ghost use Rattle.file_commands.specs.Queries.{AnswersIn};
 ghost use Rattle.file_commands.specs.Runs.{EndsOn, EndsPutFound};
 ghost use Rattle.file_commands.specs.SchemeAnswers.{IsSchemeBy};
+ghost use Rattle.file_commands.specs.Uses.{stream, views};
 
 use crate::asking::ask_device;
 use crate::scheme_tasks::words_of;
@@ -47,7 +48,7 @@ fn put_found<T: TableFiles, O: Write>(
     out: &mut O,
 ) -> Result<Ended, Fault>
     ensures { EndsPutFound answer folder.now named.now (PutBy T.puts tables.old tables.new)
-        O.contents out.old out.new result }
+        (stream O.contents out.old out.new) result }
 {
     let found = answer?;
     put_asked(alloc, tables, &found.1, folder, named, out)
@@ -66,7 +67,7 @@ pub(crate) fn tables_on<R: Threads + Wait + Sync + AllocGlobal, D: Disk, T: Tabl
 ) -> (Result<Ended, Fault>, D)
     ensures { EndsOn IsOnlyRead (PrintsTables asked.now folder.now named.now (PutBy T.puts tables.old tables.new))
         (IsTablesEnd asked.now folder.now named.now (PutBy T.puts tables.old tables.new))
-        (D.view disk) (D.view result.1) O.contents out.old out.new result.0 }
+        (views (D.view disk) (D.view result.1)) (stream O.contents out.old out.new) result.0 }
 {
     let alloc = rt.alloc();
     let (answer, disk) = ask_device(

@@ -6,6 +6,7 @@ use Rattle.commands.specs.Runs.{IsOutcomeOf, MayEnd, PrintedFor}
 use Rattle.file_commands.specs.Events.{HasDone}
 use Rattle.table_files.specs.Files.{PutBy}
 use Rattle.file_commands.specs.Tasks.{IsService}
+use Rattle.file_commands.specs.Uses.{stream}
 use Rattle.commands.proofs.ToldRuns.{at_rest, told_behind, told_so}
 use Rattle.commands.proofs.running.run_parsed.Goals as goal
 
@@ -18,7 +19,7 @@ returns-in_default-clause-runs g c =
     let new = g.O.Write.contents c.run_task-ended.new.out in
     let told_old = g.E.FaultWriter.contents c.args.streams.err.now in
     let told_new = g.E.FaultWriter.contents c.told-in_default.new.err in
-    let ends = at_rest g.P.Devices.Device.Disk done put c.args.task given g.O.Write.contents c.args.streams.out.now c.run_task-ended.new.out c.run_task-ended.result c.run_task-ended.ensures.ends in
+    let ends = at_rest g.P.Devices.Device.Disk done put c.args.task given (stream g.O.Write.contents c.args.streams.out.now c.run_task-ended.new.out) c.run_task-ended.result c.run_task-ended.ensures.ends in
     record {
       outcome = told_so (λ ended. PrintedFor g.P.Devices.Device.Disk done put c.args.task given ended old new) (λ fault. MayEnd g.P.Devices.Device.Disk done put c.args.task given old new fault) told_old told_new
           c.run_task-ended.result c.told-in_default.result c.told-in_default.ensures.told ends.printed ends.fault;

@@ -4,7 +4,7 @@ use Rattle.std.proofs.Crossing.{crosses}
 use Rattle.clap.specs.Walk.{texts}
 use Rattle.device_files.proofs.Sending.{file_send}
 use Rattle.file_commands.specs.Devices.{AreFiles}
-use Rattle.commands.specs.Runs.{streams_of}
+use Rattle.file_commands.specs.Uses.{stream}
 use Rattle.table_files.specs.Files.{PutBy}
 use Rattle.commands.proofs.Answering.{says, says_too}
 use Rattle.commands.proofs.running.run_words_at.Goals as goal
@@ -30,11 +30,11 @@ returns-clause-says g c =
     let lent = PutBy puts c.new-at.result.tables.now left in
     let back : c.tables-1.given.0 ≡ left = search rules in
     let put = PutBy puts c.args.tables.now c.tables-1.given.0 in
-    let old = streams_of c.args.script.now c.args.out.now c.new-faults.result in
-    let new = streams_of c.run_lent.new.streams.0 c.run_lent.new.streams.1.0 c.run_lent.new.streams.1.1.0 in
-    says_too _ _ AreFiles lent put (texts c.args.words.now) g.S.Read.remaining g.O.Write.contents c.args.script.now c.run_lent.new.streams.0 c.args.out.now c.run_lent.new.streams.1.0 c.status.result (λ events did. did.each)
+    let script = stream g.S.Read.remaining c.args.script.now c.run_lent.new.streams.0 in
+    let out = stream g.O.Write.contents c.args.out.now c.run_lent.new.streams.1.0 in
+    says_too _ _ AreFiles lent put (texts c.args.words.now) script out c.status.result (λ events did. did.each)
     (λ files is. subst (λ t. PutBy puts c.args.tables.now t files) (sym back) (subst (λ t. PutBy puts t left files) c.new-at.ensures.tables is))
-    (says _ _ lent (texts c.args.words.now) g.S.Read.remaining g.O.Write.contents _ old new c.run_lent.result c.status.result c.run_lent.ensures.runs c.status.ensures.value c.status.ensures.few)
+    (says _ _ lent (texts c.args.words.now) script out (stream _ c.new-faults.result c.run_lent.new.streams.1.1.0) c.run_lent.result c.status.result c.run_lent.ensures.runs c.status.ensures.value c.status.ensures.few)
 
 pub returns-clause-unput : goal.returns-clause-unput
 returns-clause-unput g c other batch =

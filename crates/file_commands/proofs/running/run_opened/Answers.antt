@@ -1,5 +1,6 @@
 use Rattle.file_commands.specs.Events.{HasDone}
 use Rattle.table_files.specs.Files.{PutBy}
+use Rattle.file_commands.specs.Uses.{stream}
 use Rattle.table_files.proofs.PutFiles.{none_put}
 use Rattle.file_commands.proofs.OnDevices.{closed, ends_at, ends_early, not_had}
 use Rattle.file_commands.proofs.running.run_opened.Goals as goal
@@ -14,7 +15,7 @@ pub returns-clause-ends : goal.returns-clause-ends
 returns-clause-ends g c =
     let disk = c.in_ok-disk.disk in
     let left = c.perform-ended.result.1 in
-    ends_at g.F.Device.Disk (HasDone g.F.Devices.opened g.F.Devices.events c.args.devices.now c.close.new.self) (PutBy g.T.TableFiles.puts c.args.tables.now c.perform-ended.new.tables) c.args.task c.path_of.result.now c.access_for.result g.O.Write.contents c.args.out.now c.perform-ended.new.out
+    ends_at g.F.Device.Disk (HasDone g.F.Devices.opened g.F.Devices.events c.args.devices.now c.close.new.self) (PutBy g.T.TableFiles.puts c.args.tables.now c.perform-ended.new.tables) c.args.task c.path_of.result.now c.access_for.result (stream g.O.Write.contents c.args.out.now c.perform-ended.new.out)
     disk left c.perform-ended.result.0 c.path_of.ensures c.access_for.ensures
     (closed g.F.Devices.opened g.F.Devices.events c.args.devices.now c.open.new.self c.close.new.self c.path_of.result.now c.access_for.result disk left c.in_ok-disk.ensures.opened c.in_ok-disk.ensures.listed c.close.ensures)
     c.perform-ended.ensures.ends
