@@ -1,14 +1,7 @@
-pub mod WordLemmas
-pub mod RowLemmas
-pub mod ScaleLemmas
-pub mod RecordLemmas
-pub mod HeaderLemmas
-pub mod NodeLemmas
 pub mod EdgeLemmas
 pub mod NameLemmas
 pub mod TakeLemmas
 pub mod WrittenLemmas
 pub mod OnceLemmas
-pub mod ApartLemmas
 pub mod LinkLemmas
 pub mod LinkedLemmas

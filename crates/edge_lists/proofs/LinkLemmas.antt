@@ -6,12 +6,12 @@ use Rattle.serde_json.specs.Data.{Data, Items}
 use Rattle.serde_json.specs.Find.{as_array, as_number, as_str, as_u64, get}
 use Rattle.serde_json.specs.View.{items_of, items_view, view}
 use Rattle.serde_json.specs.declared.value.Value.{Value, Null}
-use Rattle.edge_lists.specs.Labels.{is_name}
+use Rattle.edge_rows.specs.Labels.{is_name}
 use Rattle.serde_json.specs.Read.{read}
 use Rattle.edge_lists.specs.Links.{AreIds, IsFirstNoLink, IsFirstNoNode, IsLink, IsNoLink, IsNoNetwork, IsNoNodeLink, LinksSay, SaysLinks, first_of, has_number, if_name, items_at, items_in, links_of, name_at, number_of, text_or, weight_in, word_of}
-use Rattle.edge_lists.specs.Rows.{Said}
-use Rattle.edge_lists.specs.declared.refused.Form.{Form}
-use Rattle.edge_lists.specs.declared.refused.Form.TheVariants as forms
+use Rattle.edge_rows.specs.Rows.{Said}
+use Rattle.edge_rows.specs.declared.refused.Form.{Form}
+use Rattle.edge_rows.specs.declared.refused.Form.TheVariants as forms
 
 -- ---- words
 

@@ -11,7 +11,7 @@ use Rattle.serde_json.specs.Written.{has_float, items_have_float}
 use Rattle.serde_json.specs.declared.value.Value.{Value}
 use Rattle.edge_lists.specs.declared.edge.Edge.{Edge}
 use Rattle.edge_lists.specs.Linked.{below, label_data, link_data, named_data, network_data, node_data}
-use Rattle.edge_lists.proofs.WordLemmas.{texts_at}
+use Rattle.edge_rows.proofs.WordLemmas.{texts_at}
 
 -- the value of a node's name, or of its number where it has none
 pub name_at : (names : List (Bor (List ℕ))) (node : ℕ) (name : Bor (List ℕ)) (v : Value) → slice_get names node ≡ Some name → view v ≡ string name.now → view v ≡ label_data (texts_at names) node

@@ -1,17 +1,17 @@
 -- Names, one more at a time.
-use Rattle.std.proofs.Common.{◌≡◌, ◌<◌, ◌∙◌, ◌⊎◌, ◌||◌, inl, inr, sym, ap, subst, refl, if◌then◌else◌, ℕ, zero, suc, List, [], ◌∷◌, ◌++◌, Bool, true, false, cond, length, get_or, Some, Bor}
-use Rattle.std.specs.List.{AllByRecursion, IsDistinct, list_any, position, slice_get}
+use Rattle.std.proofs.Common.{arith, ◌≡◌, ◌<◌, ◌^◌, ◌∙◌, ◌⊎◌, ◌||◌, inl, inr, sym, ap, subst, refl, if◌then◌else◌, ℕ, zero, suc, List, [], ◌∷◌, ◌++◌, Bool, true, false, cond, length, get_or, nat_lt, Some, Bor}
+use Rattle.std.specs.List.{AllByRecursion, IsDistinct, list_any, slice_get}
 use Rattle.std.specs.Option.{option_map}
 use Rattle.std.specs.Str.{bytes_eq}
 use Rattle.std.proofs.lemmas.List.Folds.{Any-from_list_any, list_any_at}
-use Rattle.std.proofs.lemmas.List.Quantifiers.{position-Some}
+use Rattle.std.proofs.lemmas.Bool.Decides.{nat_tests}
+use Rattle.std.proofs.lemmas.List.{length-map, length_push, map_push}
 use Rattle.std.proofs.lemmas.Option.{get_or_from_slice_get, same_Some, slice_get-get_or, slice_get-map, slice_get_within}
 use Rattle.std.proofs.lemmas.Slice.Eq.{bytes_eq-Decides}
 use Rattle.indexmap.specs.IndexSet.{insert_key}
-use Rattle.edge_lists.specs.NameLists.{HaveNumbers, IsNumberOf, NoneTwice, is_among, with_name, with_names}
-use Rattle.edge_lists.proofs.HeaderLemmas.{nowhere}
-use Rattle.edge_lists.proofs.RowLemmas.{both_ways}
-use Rattle.edge_lists.proofs.WordLemmas.{texts_at}
+use Rattle.edge_lists.specs.NameLists.{HaveNumbers, IsNumberOf, NoneTwice, has_number, is_among, with_name, with_names}
+use Rattle.edge_rows.proofs.RowLemmas.{both_ways}
+use Rattle.edge_rows.proofs.WordLemmas.{texts_at}
 
 -- ---- places
 
@@ -40,12 +40,10 @@ pub among_keys : (keys : List (Bor (List ℕ))) (name : List ℕ) → list_any (
 among_keys [] name = refl
 among_keys (key ∷ keys) name = ap (λ (b : Bool). bytes_eq name key.now || b) (among_keys keys name)
 
--- and finds each at its place
-pub number_found : (keys : List (Bor (List ℕ))) (name : List ℕ) (k : ℕ) → position (λ key. bytes_eq name key.now) keys ≡ Some k → IsNumberOf (texts_at keys) name k
-number_found keys name k is =
-    let there = position-Some (λ (key : Bor (List ℕ)). bytes_eq name key.now) keys k nowhere is in
-    slice_get-map (λ (x : Bor (List ℕ)). x.now) keys k ∙ ap (option_map (λ (x : Bor (List ℕ)). x.now)) (slice_get-get_or keys k nowhere there.0)
-    ∙ ap (λ (n : List ℕ). Some n) (sym ((bytes_eq-Decides name (get_or keys k nowhere).now).0 there.1))
+-- what stands for a name in it stands at the name's number
+pub number_stored : (keys : List (Bor (List ℕ))) (name : List ℕ) (n : ℕ) (key : Bor (List ℕ)) → slice_get keys n ≡ Some key → bytes_eq name key.now ≡ true → IsNumberOf (texts_at keys) name n
+number_stored keys name n key at same =
+    slice_get-map (λ (x : Bor (List ℕ)). x.now) keys n ∙ ap (option_map (λ (x : Bor (List ℕ)). x.now)) at ∙ ap (λ (t : List ℕ). Some t) (sym ((bytes_eq-Decides name key.now).0 same))
 
 apart_from : (text : List ℕ) (keys : List (Bor (List ℕ))) (name : List ℕ) (k : ℕ) → AllByRecursion (λ key. bytes_eq text key.now ≡ false) keys → Some text ≡ Some name → IsNumberOf (texts_at keys) name k → ⊥
 apart_from text [] name k none is at = absurd (cc)
@@ -63,11 +61,32 @@ once_by_set (key ∷ keys) distinct zero (suc j) name at other = absurd (apart_f
 once_by_set (key ∷ keys) distinct (suc i) zero name at other = absurd (apart_from key.now keys name i distinct.0 other at)
 once_by_set (key ∷ keys) distinct (suc i) (suc j) name at other = ap suc (once_by_set keys distinct.1 i j name at other)
 
--- a new name goes last
-pub set_pushed : (old new : List (Bor (List ℕ))) (q : Bor (List ℕ)) (names : List (List ℕ)) → texts_at old ≡ names → is_among names q.now ≡ false → new ≡ insert_key (λ x y. bytes_eq x.now y.now) old q → new ≡ old ++ q ∷ []
-set_pushed old new q names same absent is =
-    let none : list_any (λ key. bytes_eq q.now key.now) old ≡ false = among_keys old q.now ∙ ap (λ (l : List (List ℕ)). is_among l q.now) same ∙ absent in
-    is ∙ ap (λ (b : Bool). if b then old else old ++ q ∷ []) none
+pub with_known : (names : List (List ℕ)) (name : List ℕ) → is_among names name ≡ true → with_name names name ≡ names
+with_known names name is = ap (λ (b : Bool). cond b names (names ++ name ∷ [])) is
+
+pub with_new : (names : List (List ℕ)) (name : List ℕ) → is_among names name ≡ false → with_name names name ≡ names ++ name ∷ []
+with_new names name is = ap (λ (b : Bool). cond b names (names ++ name ∷ [])) is
+
+-- where there is a number for a new name, there are not names enough
+pub room_left : (most : ℕ) (names : List (List ℕ)) (name : List ℕ) → is_among names name ≡ false → has_number most names name ≡ true → length names < most
+room_left most names name new room =
+    let left : nat_lt (length names) most ≡ true = sym (ap (λ (b : Bool). b || nat_lt (length names) most) new) ∙ room in
+    grind (arith, nat_tests, left)
+
+module _ (old new : List (Bor (List ℕ))) (q : Bor (List ℕ)) (names : List (List ℕ)) (same : texts_at old ≡ names) (is : new ≡ insert_key (λ x y. bytes_eq x.now y.now) old q) where
+  -- a new name goes last
+  pub set_grown : texts_at new ≡ with_name names q.now
+  set_grown = ap texts_at is ∙ by (list_any (λ key. bytes_eq q.now key.now) old) (among_keys old q.now) ∙ ap (λ (l : List (List ℕ)). with_name l q.now) same where
+    by : (b : Bool) → b ≡ is_among (texts_at old) q.now → texts_at (if b then old else old ++ q ∷ []) ≡ with_name (texts_at old) q.now
+    by true among = sym (with_known (texts_at old) q.now (sym among))
+    by false among = map_push (λ (x : Bor (List ℕ)). x.now) old q ∙ sym (with_new (texts_at old) q.now (sym among))
+
+  -- and there are still few
+  pub few_grown : (most : ℕ) → has_number most names q.now ≡ true → most < 2 ^ 16 → length old < 2 ^ 16 → length new < 2 ^ 16
+  few_grown most room small few = by (is_among names q.now) refl where
+    by : (b : Bool) → is_among names q.now ≡ b → length new < 2 ^ 16
+    by true among = omega (arith, few, ap length (set_grown ∙ with_known names q.now among), ap length same, length-map old (λ (x : Bor (List ℕ)). x.now), length-map new (λ (x : Bor (List ℕ)). x.now))
+    by false among = omega (arith, small, room_left most names q.now among room, ap length (set_grown ∙ with_new names q.now among), length_push names q.now, length-map new (λ (x : Bor (List ℕ)). x.now))
 
 -- ---- one name more
 
@@ -92,12 +111,6 @@ get_cases (n ∷ ns) name other (suc k) at = by (get_cases ns name other k at) w
   by (inr e) = inr (ap suc e.0, e.1)
 
 -- ---- names that come
-
-pub with_known : (names : List (List ℕ)) (name : List ℕ) → is_among names name ≡ true → with_name names name ≡ names
-with_known names name is = ap (λ (b : Bool). cond b names (names ++ name ∷ [])) is
-
-pub with_new : (names : List (List ℕ)) (name : List ℕ) → is_among names name ≡ false → with_name names name ≡ names ++ name ∷ []
-with_new names name is = ap (λ (b : Bool). cond b names (names ++ name ∷ [])) is
 
 -- another name leaves a name's number
 pub number_kept : (names : List (List ℕ)) (word name : List ℕ) (k : ℕ) → IsNumberOf names name k → IsNumberOf (with_name names word) name k

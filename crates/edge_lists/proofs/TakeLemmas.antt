@@ -9,16 +9,16 @@ use Rattle.std.proofs.lemmas.Bool.Decides.{nat_tests}
 use Rattle.edge_lists.specs.declared.edge.Edge.{Edge}
 use Rattle.edge_lists.specs.declared.refused.NameForm.TheVariants.{TooMany}
 use Rattle.edge_lists.specs.declared.refused.NameRefused.{NameRefused}
-use Rattle.edge_lists.specs.declared.row.Row.{Row}
+use Rattle.edge_rows.specs.declared.row.Row.{Row}
 use Rattle.edge_lists.specs.Edges.{IsEdgeOf}
 use Rattle.edge_lists.specs.NameLists.{AreBegun, AreNames, AreTaken, EndsAt, HaveNumbers, IsFirstNoName, IsNoName, IsNumberOf, IsOneTooMany, NoneTwice, ends_of, has_number, is_among, with_name, with_names}
-use Rattle.edge_lists.specs.Labels.{is_name}
-use Rattle.edge_lists.specs.Rows.{Said, row_of}
+use Rattle.edge_rows.specs.Labels.{is_name}
+use Rattle.edge_rows.specs.Rows.{Said, row_of}
 use Rattle.edge_lists.proofs.EdgeLemmas.{map_around, zip_push}
-use Rattle.edge_lists.proofs.HeaderLemmas.{nowhere}
-use Rattle.edge_lists.proofs.NameLemmas.{among_at, get_cases, number_kept, number_kept_all, numbers_both, with_both, with_new}
-use Rattle.edge_lists.proofs.RowLemmas.{both_ways}
-use Rattle.edge_lists.proofs.WordLemmas.{texts_at}
+use Rattle.edge_rows.proofs.HeaderLemmas.{nowhere}
+use Rattle.edge_lists.proofs.NameLemmas.{among_at, get_cases, number_kept, number_kept_all, numbers_both, room_left, with_both, with_new}
+use Rattle.edge_rows.proofs.RowLemmas.{both_ways}
+use Rattle.edge_rows.proofs.WordLemmas.{texts_at}
 
 -- ---- one row
 
@@ -122,11 +122,6 @@ once_push names name once new i j other at there = by (get_cases names name othe
   by (inl a) (inr b) = absurd (among i a b.1)
   by (inr a) (inl b) = absurd (among j b a.1)
   by (inr a) (inr b) = a.0 ∙ sym b.0
-
-room_left : (most : ℕ) (names : List (List ℕ)) (name : List ℕ) → is_among names name ≡ false → has_number most names name ≡ true → length names < most
-room_left most names name new room =
-    let left : nat_lt (length names) most ≡ true = sym (ap (λ (b : Bool). b || nat_lt (length names) most) new) ∙ room in
-    grind (arith, nat_tests, left)
 
 -- one line more
 pub names_more : (most : ℕ) (names new : List (List ℕ)) (name : List ℕ) → AreNames most names → is_name name ≡ true → is_among names name ≡ false → has_number most names name ≡ true → new ≡ with_name names name

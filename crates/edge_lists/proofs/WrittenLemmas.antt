@@ -21,15 +21,15 @@ use Rattle.edge_lists.specs.declared.refused.NameForm.{NameForm}
 use Rattle.edge_lists.specs.declared.refused.NameForm.TheVariants.{NoName, Twice, TooMany}
 use Rattle.edge_lists.specs.declared.refused.NameRefused.{NameRefused}
 use Rattle.edge_lists.specs.NameLists.{AreNames, IsFirstNoName, IsNoName, IsNumberOf}
-use Rattle.edge_lists.specs.declared.forms.Heading.TheVariants.{ByWords}
-use Rattle.edge_lists.specs.declared.forms.Writing.{Writing}
-use Rattle.edge_lists.specs.declared.forms.Writing.TheVariants.{Edges}
-use Rattle.edge_lists.specs.Labels.{AreLabels, IsLabel, begins_comment, begins_mark, is_blank_at, is_name, separates}
+use Rattle.edge_rows.specs.declared.forms.Heading.TheVariants.{ByWords}
+use Rattle.edge_rows.specs.declared.forms.Writing.{Writing}
+use Rattle.edge_rows.specs.declared.forms.Writing.TheVariants.{Edges}
+use Rattle.edge_rows.specs.Labels.{AreLabels, IsLabel, begins_comment, begins_mark, is_blank_at, is_name, separates}
 use Rattle.edge_lists.specs.Linked.{below}
-use Rattle.edge_lists.specs.Records.{comma_fields, has_comma}
-use Rattle.edge_lists.specs.Rows.{IsRowOf, IsWeight, Said, Say, begins_as_name, counted, fields_of, head_count, heads_ends, is_head, is_heading, lead, names_said, nodes_said, parts_at, remarked, remarks, says_nothing, unless_empty, with_first, words_of}
-use Rattle.edge_lists.specs.Written.{AreListed, AreRead, FitTypes, IsList, IsOneLine, SaysEdges, edge_line, edges_text, head_lines, head_words, label_of, labels_of, names_text, remark, said_of}
-use Rattle.edge_lists.proofs.RowLemmas.{both_ways}
+use Rattle.edge_rows.specs.Records.{comma_fields, has_comma}
+use Rattle.edge_rows.specs.Rows.{IsRowOf, IsWeight, Said, Say, SaysEdges, begins_as_name, counted, fields_of, head_count, heads_ends, is_head, is_heading, lead, names_said, nodes_said, parts_at, remarked, remarks, says_nothing, unless_empty, with_first, words_of}
+use Rattle.edge_lists.specs.Written.{AreListed, AreRead, FitTypes, IsList, IsOneLine, edge_line, edges_text, head_lines, head_words, label_of, labels_of, names_text, remark, said_of}
+use Rattle.edge_rows.proofs.RowLemmas.{both_ways}
 use Rattle.edge_lists.proofs.NameLemmas.{number_of_seam, number_stays, place_among}
 
 -- how a list is read that was written
@@ -275,10 +275,7 @@ module _ (names : List (List ℕ)) (all : All IsLabel names) (edge : Edge) (fit 
   line_no_head : is_head listed line ≡ false
   line_no_head =
       ap (λ (c : Bool). is_heading c (fields_of listed line)) line_comma ∙ ap (is_heading false) line_fields
-      ∙ ap (λ (c : Bool). heads_ends a b && c) (digits_begin w (digits edge.weight (omega (arith, fit.weight)))) ∙ never (heads_ends a b) where
-        never : (t : Bool) → (t && false) ≡ false
-        never true = refl
-        never false = refl
+      ∙ ap (λ (c : Bool). c && heads_ends a b) (digits_begin w (digits edge.weight (omega (arith, fit.weight))))
 
   line_remark : remarked line ≡ None
   line_remark = ap (λ (t : Bool). cond t (Some (drop 2 line)) None) (unmarked line (silent a is_a.silent)) where

@@ -2,8 +2,8 @@
 use Rattle.std.specs.Prelude.{◌≡◌, ◌≤◌, ◌+◌, ◌&&◌, ℕ, List, Bool, Some, decimal, take}
 use Rattle.std.specs.List.{AllZip, slice_get}
 use Rattle.edge_lists.specs.declared.edge.Edge.{Edge}
-use Rattle.edge_lists.specs.Labels.{are_digits}
-use Rattle.edge_lists.specs.Rows.{Said}
+use Rattle.edge_rows.specs.Labels.{are_digits}
+use Rattle.edge_rows.specs.Rows.{Said}
 
 -- the edge of a row: its line and its weight, and for each of its ends a number that the word stands for
 pub record IsEdgeOf (StandsFor : List ℕ → ℕ → Type 0) (said : Said) (edge : Edge) : Type 0 where

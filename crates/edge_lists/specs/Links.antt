@@ -1,13 +1,18 @@
 -- What node-link JSON says: nodes with what they are called, and the links between them.
-use Rattle.std.specs.Prelude.{◌≡◌, ◌⊎◌, ◌↔◌, ◌<◌, ◌+◌, ◌^◌, ℕ, List, [], ◌∷◌, All, Bool, true, IsTrue, Option, Some, None, codes, cond, decimal, is_some, option_and_then, take}
+use Rattle.std.specs.Prelude.{◌≡◌, ◌==◌, ◌⊎◌, ◌↔◌, ◌<◌, ◌+◌, ◌^◌, ℕ, List, [], ◌∷◌, All, Bool, true, false, IsTrue, Option, Some, None, codes, cond, decimal, is_some, option_and_then, take}
 use Rattle.std.specs.List.{AllZip, slice_get}
 use Rattle.serde_json.specs.Data.{Data, Items, no_items, item}
 use Rattle.serde_json.specs.Find.{as_array, as_number, as_str, as_u64, get}
 use Rattle.serde_json.specs.Read.{read}
-use Rattle.edge_lists.specs.Labels.{is_name}
-use Rattle.edge_lists.specs.Rows.{Said}
-use Rattle.edge_lists.specs.declared.refused.Form.{Form}
-use Rattle.edge_lists.specs.declared.refused.Form.TheVariants.{Arc, Arrays, Fields, Json, Link, Name, Node, Record, Relation, Weight}
+use Rattle.edge_rows.specs.Labels.{is_name}
+use Rattle.edge_rows.specs.Rows.{Said}
+use Rattle.edge_rows.specs.declared.refused.Form.{Form}
+use Rattle.edge_rows.specs.declared.refused.Form.TheVariants.{Arc, Arrays, Fields, Json, Link, Name, Node, Record, Relation, Weight}
+
+-- the text begins with `{`, as a value of JSON with nodes and links does
+abbrev pub begins_object : List ℕ → Bool
+begins_object [] = false
+begins_object (b ∷ bs) = b == 123
 
 -- ---- what stands at a key
 

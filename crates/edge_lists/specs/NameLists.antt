@@ -7,8 +7,8 @@ use Rattle.edge_lists.specs.declared.refused.NameForm.{NameForm}
 use Rattle.edge_lists.specs.declared.refused.NameForm.TheVariants.{NoName, Twice, TooMany}
 use Rattle.edge_lists.specs.declared.refused.NameRefused.{NameRefused}
 use Rattle.edge_lists.specs.Edges.{AreEdgesOf}
-use Rattle.edge_lists.specs.Labels.{is_name}
-use Rattle.edge_lists.specs.Rows.{Said}
+use Rattle.edge_rows.specs.Labels.{is_name}
+use Rattle.edge_rows.specs.Rows.{Said}
 
 -- ---- numbers
 
@@ -54,15 +54,11 @@ ends_of said = flat_map (λ row. row.a ∷ row.b ∷ []) said
 abbrev pub row_ends : Said → List (List ℕ)
 row_ends row = ends_of (row ∷ [])
 
--- the edges of rows whose ends are names
-abbrev pub AreNamed : List (List ℕ) → List Said → List Edge → Type 0
-AreNamed names said edges = AreEdgesOf (IsNumberOf names) said edges
-
 -- these rows were taken, and their names with them
 pub record AreTaken (most : ℕ) (old : List (List ℕ)) (said : List Said) (edges : List Edge) (new : List (List ℕ)) : Type 0 where
   pub numbers : HaveNumbers most old (ends_of said)
   pub names : new ≡ with_names old (ends_of said)
-  pub made : AreNamed new said edges
+  pub made : AreEdgesOf (IsNumberOf new) said edges
 
 -- the first name of a row is one too many, or it is taken and the second one is
 abbrev pub EndsAt : ℕ → List (List ℕ) → Said → List (List ℕ) → Type 0

@@ -5,8 +5,6 @@ use Rattle.std.specs.Map.{keys_of}
 use Rattle.indexmap.specs.IndexSet.{insert_key}
 use Rattle.std.specs.List.{AllPairs, Contains, slice_get}
 use Rattle.edge_lists.specs.declared.edge.Edge.{Edge}
-use Rattle.edge_lists.specs.declared.once.Choice.{Choice}
-use Rattle.edge_lists.specs.declared.once.Choice.TheVariants.{Old, New, Neither}
 use Rattle.edge_lists.specs.declared.once.Clash.{Clash}
 
 -- both nodes of an edge as one number, whichever comes first
@@ -20,12 +18,6 @@ StandsFor by_least taken given = (taken ≤ given) × (by_least ≡ false → ta
 -- two weights of one edge aren't taken as one
 abbrev pub AreApart : Bool → ℕ → ℕ → Type 0
 AreApart by_least old new = (by_least ≡ false) × (old ≢ new)
-
--- which of two weights stands for both
-abbrev pub IsChoice : Bool → ℕ → ℕ → Choice → Type 0
-IsChoice by_least old new Old = StandsFor by_least old new
-IsChoice by_least old new New = StandsFor by_least new old
-IsChoice by_least old new Neither = AreApart by_least old new
 
 -- the nodes of edges behind those of others, each two where they come first
 abbrev pub firsts : List ℕ → List Edge → List ℕ

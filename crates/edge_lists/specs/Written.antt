@@ -1,5 +1,5 @@
 -- Lists as they are written, and what is read of them.
-use Rattle.std.specs.Prelude.{◌≡◌, ◌==◌, ◌<◌, ◌+◌, ◌*◌, ◌^◌, ℕ, List, [], ◌∷◌, ◌++◌, None, Some, false, All, codes, decimal, drop, length, map, unwrap_or}
+use Rattle.std.specs.Prelude.{◌≡◌, ◌==◌, ◌<◌, ◌+◌, ◌*◌, ◌^◌, ℕ, List, [], ◌∷◌, ◌++◌, None, Some, false, All, codes, decimal, length, map, unwrap_or}
 use Rattle.std.specs.List.{flat_map, slice_get}
 use denote.Ref.{Bor}
 use Rattle.value_syntax.specs.Reading.{texts_of}
@@ -7,11 +7,10 @@ use Rattle.value_syntax.specs.Scripts.{lines_of}
 use Rattle.edge_lists.specs.declared.edge.Edge.{Edge}
 use Rattle.edge_lists.specs.declared.refused.NameRefused.{NameRefused}
 use Rattle.edge_lists.specs.NameLists.{AreNames, IsFirstNoName}
-use Rattle.edge_lists.specs.declared.forms.Heading.TheVariants.{ByWords}
-use Rattle.edge_lists.specs.declared.forms.Writing.{Writing}
-use Rattle.edge_lists.specs.declared.forms.Writing.TheVariants.{Edges}
+use Rattle.edge_rows.specs.declared.forms.Heading.TheVariants.{ByWords}
+use Rattle.edge_rows.specs.declared.forms.Writing.TheVariants.{Edges}
 use Rattle.edge_lists.specs.Linked.{below}
-use Rattle.edge_lists.specs.Rows.{IsFirstRefused, Said, Say, lead, names_said, nodes_said}
+use Rattle.edge_rows.specs.Rows.{IsRefusedAt, Said, SaysEdges, names_said, nodes_said}
 
 -- ---- names
 
@@ -93,14 +92,6 @@ dimacs_text nodes edges = (codes "p sp " ++ (decimal nodes ++ (32 ∷ (decimal (
 abbrev pub said_of : List (List ℕ) → ℕ → List Edge → List Said
 said_of names before [] = []
 said_of names before (edge ∷ edges) = record { line = before + 1; a = label_of names edge.a; b = label_of names edge.b; weight = edge.weight } ∷ said_of names (before + 1) edges
-
--- the text is a list of edges in this form, and says that
-abbrev pub SaysEdges : Writing → List ℕ → List Said → Type 0
-SaysEdges writing text said = Say writing (lead writing (lines_of text)) (drop (lead writing (lines_of text)) (lines_of text)) said
-
--- no edges are said by the text up to the line of that number, whose lines before say edges
-abbrev pub IsRefusedAt : Writing → List ℕ → ℕ → Type 0
-IsRefusedAt writing text number = IsFirstRefused writing (lead writing (lines_of text)) (drop (lead writing (lines_of text)) (lines_of text)) number
 
 -- the text says that and nothing else, and no line of it is refused, where a header is known by its words
 pub record AreRead (text : List ℕ) (said : List Said) : Type 0 where

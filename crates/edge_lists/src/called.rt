@@ -3,7 +3,7 @@ ghost use Rattle.std.specs.Prelude.{◌≡◌, ◌↔◌, IsTrue};
 ghost use Rattle.value_syntax.specs.Scripts.{lines_of};
 ghost use Rattle.edge_lists.specs.Called.{IsCalled, SaysNumbers};
 ghost use Rattle.edge_lists.specs.NameLists.{IsFirstNoName};
-ghost use Rattle.edge_lists.specs.Reading.{IfAccepted, IfRefused};
+ghost use Rattle.edge_rows.specs.Reading.{IfAccepted, IfRefused};
 
 use crate::names::Names;
 use crate::refused::NameRefused;

@@ -3,11 +3,10 @@ ghost use Rattle.std.specs.Prelude.{◌≡◌, ℕ, map};
 ghost use Rattle.std.specs.List.{list_all};
 ghost use Rattle.value_syntax.specs.Reading.{IfRead};
 ghost use Rattle.edge_lists.specs.Edges.{AreNumbered, IsFirstOther, IsNotNumbered, IsNumber, IsNumbered, calls_numbers};
-ghost use Rattle.edge_lists.specs.Reading.{IfAccepted, IfNoneRead, IfRefused};
-ghost use Rattle.edge_lists.specs.Rows.{row_of};
+ghost use Rattle.edge_rows.specs.Reading.{IfAccepted, IfNoneRead, IfRefused};
+ghost use Rattle.edge_rows.specs.Rows.{row_of};
 
-use crate::name::are_digits;
-use crate::row::Row;
+use edge_rows::{Row, are_digits};
 use std::alloc::{AllocError, Global};
 use value_syntax::number;
 

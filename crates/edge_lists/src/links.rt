@@ -6,15 +6,23 @@ ghost use Rattle.serde_json.specs.Find.{get};
 ghost use Rattle.serde_json.specs.Read.{read};
 ghost use Rattle.serde_json.specs.View.{view};
 ghost use Rattle.value_syntax.specs.Reading.{IfRead};
-ghost use Rattle.edge_lists.specs.Links.{AreIds, IsFirstNoLink, IsFirstNoNode, IsLink, IsNoLink, IsNoNetwork, IsNoNodeLink, LinksSay, SaysLinks, has_number, items_at, links_of, name_at, weight_in, word_of};
-ghost use Rattle.edge_lists.specs.Reading.{IfAccepted, IfNoneRead, IfRefused};
-ghost use Rattle.edge_lists.specs.Rows.{row_of};
+ghost use Rattle.edge_lists.specs.Links.{AreIds, IsFirstNoLink, IsFirstNoNode, IsLink, IsNoLink, IsNoNetwork, IsNoNodeLink, LinksSay, SaysLinks, begins_object, has_number, items_at, links_of, name_at, weight_in, word_of};
+ghost use Rattle.edge_rows.specs.Reading.{IfAccepted, IfNoneRead, IfRefused};
+ghost use Rattle.edge_rows.specs.Rows.{row_of};
 
-use crate::name::is_name;
-use crate::refused::{Form, LineRefused};
-use crate::row::Row;
+use edge_rows::{Form, LineRefused, Row, is_name};
 use serde_json::Value;
 use std::alloc::{AllocError, Global};
+
+/// Whether a text begins as JSON with nodes and links does.
+pub fn begins_object(text: &str) -> bool
+    ensures { result ≡ begins_object text.now }
+{
+    match text.as_bytes() {
+        [first, ..] => *first == b'{',
+        [] => false,
+    }
+}
 
 /// What node-link JSON says.
 #[derive(Drop)]
@@ -149,13 +157,8 @@ fn have_numbers(nodes: &[Value]) -> bool
 fn array_at<'a>(value: &'a Value, key: &str) -> Option<&'a [Value]>
     ensures { option_map (λ items. map view items.now) result ≡ items_at key.now (view value.entry.now) }
 {
-    match value.get(key) {
-        Some(found) => match found.as_array() {
-            Some(items) => Some(items.as_slice()),
-            None => None,
-        },
-        None => None,
-    }
+    let items = value.get(key)?.as_array()?;
+    Some(items.as_slice())
 }
 
 // The links.
@@ -235,8 +238,5 @@ pub fn read_links(alloc: Global, text: &str) -> Result<Result<Links, LineRefused
         Ok(value) => value,
         Err(refused) => return Ok(Err(refused)),
     };
-    match links_in(alloc, text, &value)? {
-        Ok(links) => Ok(Ok(links)),
-        Err(refused) => Ok(Err(refused)),
-    }
+    links_in(alloc, text, &value)
 }

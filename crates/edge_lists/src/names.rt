@@ -5,14 +5,13 @@ ghost use Rattle.value_syntax.specs.Reading.{IfRead, texts_of};
 ghost use Rattle.value_syntax.specs.Scripts.{lines_of};
 ghost use Rattle.edge_lists.specs.Edges.{IsEdgeOf};
 ghost use Rattle.edge_lists.specs.NameLists.{AreBegun, AreNames, AreTaken, EndsAt, HaveNumbers, IsFirstNoName, IsNumberOf, IsOneTooMany, NoneTwice, has_number, is_among, row_ends, with_name, with_names};
-ghost use Rattle.edge_lists.specs.Reading.{IfAccepted, IfNoneRead, IfRefused, OnRead};
-ghost use Rattle.edge_lists.specs.Rows.{row_of};
+ghost use Rattle.edge_rows.specs.Reading.{IfAccepted, IfNoneRead, IfRefused, OnRead};
+ghost use Rattle.edge_rows.specs.Rows.{row_of};
 ghost use Rattle.edge_lists.specs.Written.{AreListed, IsOneLine, names_text};
 
 use crate::edge::Edge;
-use crate::name::is_name;
 use crate::refused::{NameForm, NameRefused};
-use crate::row::Row;
+use edge_rows::{Row, is_name};
 use indexmap::IndexSet;
 use std::alloc::{AllocError, Global};
 use std::marker::Model;
@@ -68,28 +67,11 @@ impl<'a> Names<'a> {
         self.set.len()
     }
 
-    // The number of a name that is one of them.
-    fn place_of(&self, name: &str) -> Option<u16>
-        ensures number { IfSome result (λ number. IsNumberOf self.now name.now number) }
-        ensures some { is_some result ≡ is_among self.now name.now }
+    // Whether there is a number for a name.
+    fn has_number(&self, name: &str, most: u16) -> bool
+        ensures { result ≡ has_number most self.now name.now }
     {
-        match self.set.get_index_of(name) {
-            Some(place) => Some(place as u16),
-            None => None,
-        }
-    }
-
-    // Puts a new name at the end.
-    fn push(&mut self, name: &'a str) -> Result<u16, AllocError>
-        requires new { is_among self.old name.now ≡ false }
-        requires few { length self.old + 1 < 2 ^ 16 }
-        ensures number { IfOk result (λ number. number ≡ length self.old) }
-        ensures ok { OnOk result (self.new ≡ self.old ++ name.entry.now ∷ []) }
-        ensures err { OnErr result (self.new ≡ self.old) }
-    {
-        let number = self.set.len() as u16;
-        self.set.insert(name)?;
-        Ok(number)
+        self.has(name) || self.len() < most as usize
     }
 
     /// The names that these lines are, at most `most`. Or the first line that is no name, or is one for the second time.
@@ -133,10 +115,7 @@ impl<'a> Names<'a> {
         ensures refused { IfRefused result (λ refused. IsFirstNoName most (lines_of text.entry.now) refused) }
     {
         let texts = lines_in(alloc, text)?;
-        match Names::from_lines(alloc, &texts, most)? {
-            Ok(names) => Ok(Ok(names)),
-            Err(refused) => Ok(Err(refused)),
-        }
+        Names::from_lines(alloc, &texts, most)
     }
 
     /// The number of a name, which gets the next one where it is new; `None` where there are `most` names already and
@@ -150,13 +129,11 @@ impl<'a> Names<'a> {
         ensures none { IfNoneRead result (self.new ≡ self.old) }
         ensures err { OnErr result (self.new ≡ self.old) }
     {
-        if let Some(number) = self.place_of(name) {
-            return Ok(Some(number));
-        }
-        if self.len() >= most as usize {
+        if !self.has_number(name, most) {
             return Ok(None);
         }
-        let number = self.push(name)?;
+        let full = self.set.insert_full(name)?;
+        let number = full.0 as u16;
         Ok(Some(number))
     }
 

@@ -1,8 +1,7 @@
 // One edge for each two nodes.
-ghost use Rattle.std.specs.Prelude.{◌≡◌, ◌+◌, ◌<◌, IfOk, length, take};
-ghost use Rattle.std.specs.HashMap.{values};
-ghost use Rattle.edge_lists.specs.Once.{AreOnce, IsChoice, IsFirstClash, IsKept, pair_of};
-ghost use Rattle.edge_lists.specs.Reading.{IfAccepted, IfNoneRead, IfRefused};
+ghost use Rattle.std.specs.Prelude.{◌≡◌, ◌+◌, ◌<◌, length, take};
+ghost use Rattle.edge_lists.specs.Once.{AreOnce, IsFirstClash, IsKept, pair_of};
+ghost use Rattle.edge_rows.specs.Reading.{IfAccepted, IfNoneRead, IfRefused};
 ghost use Rattle.value_syntax.specs.Reading.{IfRead};
 
 use crate::edge::Edge;
@@ -16,33 +15,12 @@ pub struct Clash {
     pub second: usize,
 }
 
-/// Which of two edges stands for both.
-#[derive(Clone, Copy, Drop)]
-pub(crate) enum Choice {
-    Old,
-    New,
-    Neither,
-}
-
 // Both nodes of an edge as one number, whichever comes first.
 fn pair_of(edge: &Edge) -> u32
     ensures { result ≡ pair_of edge.now }
 {
     let (low, high) = (edge.a.min(edge.b), edge.a.max(edge.b));
     low as u32 * 65_536 + high as u32
-}
-
-// Which of two weights stands for both.
-fn chosen(by_least: bool, old: u32, new: u32) -> Choice
-    ensures { IsChoice by_least old new result }
-{
-    if old == new {
-        return Choice::Old;
-    }
-    if !by_least {
-        return Choice::Neither;
-    }
-    if old < new { Choice::Old } else { Choice::New }
 }
 
 // Keeps the edge of an index, where those before it are kept. Or the two lines that aren't taken as one.
@@ -63,24 +41,20 @@ fn keep_one(
         kept.insert(pair, edge)?;
         return Ok(None);
     };
-    match chosen(by_least, other.weight, edge.weight) {
-        Choice::Old => Ok(None),
-        Choice::New => {
-            kept.insert(pair, edge)?;
-            Ok(None)
-        }
-        Choice::Neither => Ok(Some(Clash {
+    if edge.weight == other.weight {
+        return Ok(None);
+    }
+    if !by_least {
+        return Ok(Some(Clash {
             first: other.line,
             second: edge.line,
-        })),
+        }));
     }
-}
-
-// What a map keeps.
-fn edges_of(alloc: Global, kept: IndexMap<u32, Edge>) -> Result<Vec<Edge>, AllocError>
-    ensures { IfOk result (λ taken. taken.items ≡ values kept) }
-{
-    kept.into_values().collect(alloc)
+    if edge.weight < other.weight {
+        kept.insert(pair, edge)?;
+        return Ok(None);
+    }
+    Ok(None)
 }
 
 /// One edge for each two nodes that edges join, in the order in which the first of each came. Edges between the same nodes
@@ -100,6 +74,6 @@ pub fn each_once(
             return Ok(Err(clash));
         }
     }
-    let taken = edges_of(alloc, kept)?;
+    let taken: Vec<Edge> = kept.into_values().collect(alloc)?;
     Ok(Ok(taken))
 }

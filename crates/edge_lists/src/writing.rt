@@ -2,12 +2,12 @@
 ghost use Rattle.std.specs.Prelude.{◌≡◌, ◌++◌, ◌∷◌, [], IfOk, OnOk};
 ghost use Rattle.std.specs.String.{string_bytes};
 ghost use Rattle.value_syntax.specs.Reading.{IfRead, texts_of};
-ghost use Rattle.edge_lists.specs.Labels.{AreLabels};
-ghost use Rattle.edge_lists.specs.Reading.{IfNoneRead};
+ghost use Rattle.edge_rows.specs.Labels.{AreLabels};
+ghost use Rattle.edge_rows.specs.Reading.{IfNoneRead};
 ghost use Rattle.edge_lists.specs.Written.{FitTypes, IsList, arc_text, arcs_text, dimacs_text, head_lines, label_of, names_text, remark, text_of_edge};
 
 use crate::edge::Edge;
-use crate::name::are_labels;
+use edge_rows::are_labels;
 use std::alloc::{AllocError, Global};
 
 /// Adds what a node is called: its name, or its number where it has none.
@@ -69,19 +69,11 @@ pub fn edge_list(
     if !are_labels(names) {
         return Ok(None);
     }
-    let text = text_of(alloc, nodes, edges, names)?;
-    Ok(Some(text))
-}
-
-// The text of these edges.
-fn text_of(alloc: Global, nodes: u16, edges: &[Edge], names: &[&str]) -> Result<String, AllocError>
-    ensures { IfOk result (λ text. AreLabels names.now → IsList (texts_of names.now) nodes edges.now (string_bytes text)) }
-{
     let mut text = list_head(alloc, nodes, names)?;
     for edge in edges {
         push_line(&mut text, names, edge)?;
     }
-    Ok(text)
+    Ok(Some(text))
 }
 
 /// The edges between so many nodes as DIMACS has them: a line `p sp N M`, and for each edge an arc each way.

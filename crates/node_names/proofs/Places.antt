@@ -8,7 +8,7 @@ use Rattle.std.specs.List.{slice_get}
 use Rattle.std.proofs.lemmas.Option.{same_Some}
 use Rattle.value_syntax.specs.Reading.{texts_of}
 use Rattle.edge_lists.specs.NameLists.{IsNumberOf}
-use Rattle.edge_lists.proofs.HeaderLemmas.{nowhere}
+use Rattle.value_syntax.proofs.Written.{nowhere}
 
 -- the name at a place
 at_place : (names : List (Bor (List ℕ))) (i : ℕ) → i < length names → slice_get (texts_of names) i ≡ Some ((get_or names i nowhere).now)

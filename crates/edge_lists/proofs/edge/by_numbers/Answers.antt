@@ -1,8 +1,8 @@
 use Rattle.std.proofs.Common.{arith, ◌<◌, sym, subst, length, List}
 use Rattle.std.proofs.lemmas.List.{take-map}
-use Rattle.edge_lists.specs.declared.row.Row.{Row}
+use Rattle.edge_rows.specs.declared.row.Row.{Row}
 use Rattle.edge_lists.specs.Edges.{AreNumbered, IsEdgeOf, IsNumber, IsNumbered}
-use Rattle.edge_lists.specs.Rows.{Said, row_of}
+use Rattle.edge_rows.specs.Rows.{Said, row_of}
 use Rattle.edge_lists.proofs.EdgeLemmas.{at_place, at_some, on_none, zip_more}
 use Rattle.edge_lists.proofs.edge.by_numbers.Goals as goal
 

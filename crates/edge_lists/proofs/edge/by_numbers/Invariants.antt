@@ -1,6 +1,6 @@
 use Rattle.std.proofs.Common.{map, take}
 use Rattle.edge_lists.specs.Edges.{AreNumbered}
-use Rattle.edge_lists.specs.Rows.{row_of}
+use Rattle.edge_rows.specs.Rows.{row_of}
 use Rattle.edge_lists.proofs.edge.by_numbers.Given as goal
 
 abbrev pub invariant-loop-place : goal.invariant-loop-place

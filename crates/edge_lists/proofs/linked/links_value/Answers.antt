@@ -6,7 +6,7 @@ use Rattle.serde_json.specs.View.{items_of}
 use Rattle.edge_lists.specs.declared.edge.Edge.{Edge}
 use Rattle.edge_lists.specs.Linked.{link_data}
 use Rattle.edge_lists.proofs.LinkedLemmas.{value_more}
-use Rattle.edge_lists.proofs.WordLemmas.{texts_at}
+use Rattle.edge_rows.proofs.WordLemmas.{texts_at}
 use Rattle.edge_lists.proofs.WrittenLemmas.{no_edge}
 use Rattle.edge_lists.proofs.linked.links_value.Goals as goal
 

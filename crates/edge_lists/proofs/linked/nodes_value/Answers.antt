@@ -4,7 +4,7 @@ use Rattle.serde_json.specs.Data.{Data, array}
 use Rattle.serde_json.specs.View.{items_of}
 use Rattle.edge_lists.specs.Linked.{below, node_data}
 use Rattle.edge_lists.proofs.LinkedLemmas.{value_next}
-use Rattle.edge_lists.proofs.WordLemmas.{texts_at}
+use Rattle.edge_rows.proofs.WordLemmas.{texts_at}
 use Rattle.edge_lists.proofs.linked.nodes_value.Goals as goal
 
 pub loop-node-preserved : goal.loop-node-preserved

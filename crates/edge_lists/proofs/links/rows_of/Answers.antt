@@ -5,7 +5,7 @@ use Rattle.serde_json.specs.Data.{Data}
 use Rattle.serde_json.specs.View.{view}
 use Rattle.serde_json.specs.declared.value.Value.{Value}
 use Rattle.edge_lists.specs.Links.{IsLink, LinksSay}
-use Rattle.edge_lists.specs.Rows.{row_of}
+use Rattle.edge_rows.specs.Rows.{row_of}
 use Rattle.edge_lists.proofs.EdgeLemmas.{at_place}
 use Rattle.edge_lists.proofs.LinkLemmas.{links_next}
 use Rattle.edge_lists.proofs.links.rows_of.Goals as goal

@@ -1,5 +1,5 @@
 use Rattle.std.proofs.Common.{arith, List}
-use Rattle.edge_lists.proofs.HeaderLemmas.{nowhere}
+use Rattle.value_syntax.proofs.Written.{nowhere}
 use Rattle.graph_edits.specs.declared.edits.Op.{Op}
 use Rattle.node_names.specs.NamedOps.{AreOpsBy}
 use Rattle.lab_names.proofs.Zipped.{ops_next, ops_none, told_none}

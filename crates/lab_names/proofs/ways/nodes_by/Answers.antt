@@ -1,6 +1,6 @@
 use Rattle.std.proofs.Common.{arith, ◌∙◌, inl, sym}
 use Rattle.std.proofs.lemmas.Option.{none-some}
-use Rattle.edge_lists.proofs.HeaderLemmas.{nowhere}
+use Rattle.value_syntax.proofs.Written.{nowhere}
 use Rattle.lab_names.proofs.Zipped.{nodes_none}
 use Rattle.lab_names.proofs.ways.nodes_by.Goals as goal
 

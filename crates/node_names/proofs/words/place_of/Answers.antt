@@ -1,6 +1,6 @@
 use Rattle.std.proofs.Common.{rules, arith, ◌≡◌, ◌<◌, ◌∙◌, ap, sym, ℕ, length, get_or, Some, true, false}
 use Rattle.std.proofs.lemmas.Slice.Eq.{bytes_eq-Decides}
-use Rattle.edge_lists.proofs.HeaderLemmas.{nowhere}
+use Rattle.value_syntax.proofs.Written.{nowhere}
 use Rattle.node_names.proofs.Places.{is_at, not_at, within}
 use Rattle.node_names.proofs.words.place_of.Goals as goal
 

@@ -1,6 +1,6 @@
 use Rattle.std.proofs.Common.{◌≡◌, ◌∙◌, ap, refl, subst, ℕ, List}
 use Rattle.edge_lists.specs.NameLists.{IsNumberOf, with_name}
-use Rattle.edge_lists.specs.Rows.{row_of}
+use Rattle.edge_rows.specs.Rows.{row_of}
 use Rattle.edge_lists.proofs.EdgeLemmas.{at_some, on_some}
 use Rattle.edge_lists.proofs.TakeLemmas.{begun_first, in_any_case, one_edge}
 use Rattle.edge_lists.proofs.names.Names.edge_of.Goals as goal

@@ -1,5 +1,5 @@
 use Rattle.std.proofs.Common.{arith, refl, sym}
-use Rattle.edge_lists.specs.Rows.{row_of}
+use Rattle.edge_rows.specs.Rows.{row_of}
 use Rattle.edge_lists.proofs.EdgeLemmas.{at_some, on_none, on_some}
 use Rattle.edge_lists.proofs.TakeLemmas.{begun_more, begun_whole, in_any_case, one_too_many, taken_more}
 use Rattle.edge_lists.proofs.names.Names.take_rows.Goals as goal

@@ -1,6 +1,6 @@
 use Rattle.std.proofs.Common.{map, take}
 use Rattle.edge_lists.specs.NameLists.{AreTaken}
-use Rattle.edge_lists.specs.Rows.{row_of}
+use Rattle.edge_rows.specs.Rows.{row_of}
 use Rattle.edge_lists.proofs.names.Names.take_rows.Given as goal
 
 abbrev pub invariant-loop-row : goal.invariant-loop-row

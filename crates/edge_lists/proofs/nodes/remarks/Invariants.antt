@@ -1,6 +1,0 @@
-use Rattle.std.proofs.Common.{◌≡◌, ◌++◌, drop, map}
-use Rattle.edge_lists.proofs.NodeLemmas.{remarks_left}
-use Rattle.edge_lists.proofs.nodes.remarks.Given as goal
-
-abbrev pub invariant-loop-index : goal.invariant-loop-index
-invariant-loop-index l = remarks_left l.texts ≡ map (λ x. x.now) l.names.items ++ remarks_left (drop l.index l.texts)

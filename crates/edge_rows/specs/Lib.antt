@@ -1,0 +1,5 @@
+pub mod Labels
+pub mod Records
+pub mod Rows
+pub mod Apart
+pub mod Reading

@@ -1,0 +1,123 @@
+// What a text says of its nodes, in front of its edges.
+ghost use Rattle.std.specs.Prelude.{◌≡◌, IfOk};
+ghost use Rattle.std.specs.Option.{option_map};
+ghost use Rattle.value_syntax.specs.Reading.{IfRead, texts_of};
+ghost use Rattle.value_syntax.specs.Scripts.{lines_of};
+ghost use Rattle.edge_rows.specs.Rows.{count_line, count_word, counted, head_count, names_said, nodes_said, remarks, words_of};
+
+use crate::forms::{Writing, is_letter, nodes_word, reads_as};
+use crate::header::lines_before;
+use crate::words::{parts_in, words_in};
+use std::alloc::{AllocError, Global};
+use value_syntax::lines_in;
+
+/// How many nodes there are, and what they are called.
+#[derive(Debug, Drop)]
+pub struct Nodes<'a> {
+    /// The number of the line that says how many there are, from 1.
+    pub line: usize,
+    /// How many there are, in a word.
+    pub count: &'a str,
+    /// What they are called, by the comments behind that line of an edge list.
+    pub names: Vec<&'a str>,
+}
+
+/// What a text says of its nodes: in the first line of an edge list, `# nodes=N`, or in the problem line of DIMACS.
+pub fn read_nodes<'a>(
+    alloc: Global,
+    text: &'a str,
+    writing: Writing,
+) -> Result<Option<Nodes<'a>>, AllocError>
+    ensures count { IfOk result (λ nodes. option_map (λ n. n.count.now) nodes ≡ nodes_said writing (lines_of text.entry.now)) }
+    ensures line { IfRead result (λ nodes. nodes.line ≡ count_line writing (lines_of text.entry.now)) }
+    ensures names { IfRead result (λ nodes. texts_of nodes.names.items ≡ names_said writing (lines_of text.entry.now)) }
+{
+    let texts = lines_in(alloc, text)?;
+    let line = count_line(alloc, writing, &texts)?;
+    let Some(text) = texts.get(line.saturating_sub(1)).copied() else {
+        return Ok(None);
+    };
+    let Some(count) = count_at(alloc, writing, text)? else {
+        return Ok(None);
+    };
+    let names = names_in(alloc, writing, &texts)?;
+    Ok(Some(Nodes { line, count, names }))
+}
+
+// The number of the line that may say how many there are.
+fn count_line(alloc: Global, writing: Writing, texts: &[&str]) -> Result<usize, AllocError>
+    ensures { IfOk result (λ line. line ≡ count_line writing (texts_of texts.now)) }
+{
+    match writing {
+        Writing::Edges(..) => Ok(1),
+        Writing::Dimacs => lines_before(alloc, writing, texts),
+        Writing::Relations => Ok(1),
+    }
+}
+
+// The word for how many there are, in a line that says it.
+fn count_at<'a>(
+    alloc: Global,
+    writing: Writing,
+    text: &'a str,
+) -> Result<Option<&'a str>, AllocError>
+    ensures { IfOk result (λ word. option_map (λ w. w.now) word ≡ count_word writing (words_of text.entry.now)) }
+{
+    let words = words_in(alloc, text)?;
+    match writing {
+        Writing::Edges(..) => head_count(alloc, &words),
+        Writing::Dimacs => Ok(nodes_word(&words)),
+        Writing::Relations => Ok(None),
+    }
+}
+
+// N of the words of a line `# nodes=N`.
+fn head_count<'a>(alloc: Global, words: &[&'a str]) -> Result<Option<&'a str>, AllocError>
+    ensures { IfOk result (λ count. option_map (λ c. c.now) count ≡ head_count (texts_of words.now)) }
+{
+    match words {
+        [mark, word] if is_letter(b'#', *mark) => {
+            let parts = parts_in(alloc, *word, '=')?;
+            Ok(counted(&parts))
+        }
+        _ => Ok(None),
+    }
+}
+
+// N of the parts of a word `nodes=N`.
+fn counted<'a>(parts: &[&'a str]) -> Option<&'a str>
+    ensures { option_map (λ count. count.now) result ≡ counted (texts_of parts.now) }
+{
+    match parts {
+        [kind, count] if reads_as(*kind, "nodes") => Some(*count),
+        _ => None,
+    }
+}
+
+// What the lines behind the first call nodes.
+fn names_in<'a>(
+    alloc: Global,
+    writing: Writing,
+    texts: &[&'a str],
+) -> Result<Vec<&'a str>, AllocError>
+    ensures { IfOk result (λ names. texts_of names.items ≡ names_said writing (texts_of texts.now)) }
+{
+    match (writing, texts) {
+        (Writing::Edges(..), [_, behind @ ..]) => remarks(alloc, behind),
+        _ => Ok(Vec::new(alloc)),
+    }
+}
+
+// What stands behind `# ` in the lines that begin so, up to the first that doesn't.
+fn remarks<'a>(alloc: Global, texts: &[&'a str]) -> Result<Vec<&'a str>, AllocError>
+    ensures { IfOk result (λ names. texts_of names.items ≡ remarks (texts_of texts.now)) }
+{
+    let mut names = Vec::new(alloc);
+    for index in 0..texts.len() {
+        match texts[index].strip_prefix("# ") {
+            Some(name) => names.push(name)?,
+            None => return Ok(names),
+        }
+    }
+    Ok(names)
+}
