@@ -20,6 +20,11 @@ use Rattle.crash_trials.specs.Arming.{armed_with, written}
 use Rattle.crash_trials.specs.Kinds.{IsKindOf, is_whole}
 use Rattle.crash_trials.specs.Texts.{IsTrialsText}
 
+-- How the devices of trials are seen: one in memory, and one there that also notes its calls.
+pub record TrialDevices : Type 1 where
+  pub memory : Ghosts MemDisk
+  pub watched : Ghosts Watched
+
 -- These lives, of a device in memory that was formatted for so many nodes, came to this.
 pub record IsLivedTo (model : Ghosts MemDisk) (nodes : ℕ) (lives : List Life) (kind : Kind) : Type 0 where
   pub report : LivesReport
@@ -49,12 +54,12 @@ abbrev pub AreCallsUnstopped : Ghosts Watched → Rehearsal → List Call → Ty
 AreCallsUnstopped model rehearsal calls = AreCallsOf model rehearsal.nodes (written (armed_with plans.None rehearsal.lives.items)) calls
 
 -- The text is that of the trials at the first `most` stops of the calls that the last written life made of a device that doesn't fail.
-pub record IsTried (model : Ghosts MemDisk) (watched : Ghosts Watched) (rehearsal : Rehearsal) (most : ℕ) (text : List ℕ) : Type 0 where
+pub record IsTried (devices : TrialDevices) (rehearsal : Rehearsal) (most : ℕ) (text : List ℕ) : Type 0 where
   pub calls : List Call
-  pub unstopped : AreCallsUnstopped watched rehearsal calls
+  pub unstopped : AreCallsUnstopped devices.watched rehearsal calls
   pub tried : List StopFound
   -- all of these stops were tried, in their order
   pub stops : map stop_of tried ≡ first_stops most calls
   -- each trial came to what is told of it
-  pub each : AllByRecursion (IsStopFound model rehearsal) tried
+  pub each : AllByRecursion (IsStopFound devices.memory rehearsal) tried
   pub told : IsTrialsText (min (stop_count calls) (2 ^ 64 - 1)) tried text

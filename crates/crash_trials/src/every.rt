@@ -25,7 +25,8 @@ pub fn try_every_stop<F: Fn(usize)>(
     requires { F.IsAlwaysCallable told }
     ensures none { length rehearsal.old.lives.items < 2 → IfOk result (λ text. IsTrialsText 0 [] (string_bytes text)) }
     ensures tried { 2 ≤ length rehearsal.old.lives.items →
-        IfOk result (λ text. IsTried ⟦<MemDisk as Disk>⟧ ⟦<Watched as Disk>⟧ rehearsal.old most (string_bytes text)) }
+        IfOk result (λ text. IsTried record { memory = ⟦<MemDisk as Disk>⟧; watched = ⟦<Watched as Disk>⟧ }
+        rehearsal.old most (string_bytes text)) }
 {
     if rehearsal.lives.len() < 2 {
         let none = trials_text(alloc, 0, &[])?;

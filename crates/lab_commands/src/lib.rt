@@ -20,11 +20,11 @@
 //! [`run_words`] answers a status: 0 where it did what was asked for, 2 where the words or a line of the file aren't understood, and 1 where
 //! an edge or a name is refused, a file or a device can't be used, the output can't be written or memory ran out.
 //!
-//! The contract that the program uses (`Does` of `specs/Commands`), over any place of devices and files: with status 0 the words ask for help,
-//! or the command that they name did what they ask for. Which command that is, and which texts its arguments have, follows from the words and
-//! the grammar (`program` of `specs/Grammar`) by clap's own account of a parse. So what was printed is the text of its library's call, of the
-//! device that was opened by the path among the words and given back, or of the file that was read there. With status 2 nothing was printed.
-//! `time` promises its status alone: what a clock says no contract knows.
+//! The contract that the program uses (`Does` of `specs/Commands`), over any place of devices and files (`Lab`): with status 0 the words ask
+//! for help, or the command that they name did what they ask for. Which command that is, and which texts its arguments have, follows from the
+//! words and the grammar (`program` of `specs/Grammar`) by clap's own account of a parse. So what was printed is the text of its library's
+//! call, of the device that was opened by the path among the words and given back, or of the file that was read there. With status 2 nothing
+//! was printed. `time` promises its status alone: what a clock says no contract knows.
 #![tactic(auto)]
 
 ghost use Rattle.std.specs.Prelude.{◌≡◌, ◌⊎◌, ◌≤◌, IfErr, IfOk, IsOk, IsTrue};
@@ -57,8 +57,10 @@ where
     E: Write + IsTerminal,
     ensures few { result ≤ 2 }
     // 0 only where the command's text or clap's was printed, and 2 only where nothing was.
-    ensures printed { result ≡ 0 → AskHelp words.now ⊎ Does ⟦<MemDisk as Disk>⟧ ⟦<Watched as Disk>⟧
-        R.Device.Disk R.opened R.held R.closed R.stands (subcommand_of program (texts words.now)) O.contents out.old out.new }
+    ensures printed { result ≡ 0 → AskHelp words.now ⊎ Does
+        record { memory = ⟦<MemDisk as Disk>⟧; watched = ⟦<Watched as Disk>⟧ }
+        record { model = R.Device.Disk; opened = R.opened; held = R.held; closed = R.closed; stands = R.stands }
+        (subcommand_of program (texts words.now)) record { contents = O.contents; before = out.old; after = out.new } }
     ensures untouched { result ≡ 2 → out.new ≡ out.old }
 {
     match parsed(rt.alloc(), words, out, err) {
@@ -74,8 +76,10 @@ where
     O: Write,
     E: Write + IsTerminal,
     ensures few { result ≤ 2 }
-    ensures printed { result ≡ 0 → Does ⟦<MemDisk as Disk>⟧ ⟦<Watched as Disk>⟧
-        R.Device.Disk R.opened R.held R.closed R.stands (subcommand_rows_of found.now) O.contents out.old out.new }
+    ensures printed { result ≡ 0 → Does
+        record { memory = ⟦<MemDisk as Disk>⟧; watched = ⟦<Watched as Disk>⟧ }
+        record { model = R.Device.Disk; opened = R.opened; held = R.held; closed = R.closed; stands = R.stands }
+        (subcommand_rows_of found.now) record { contents = O.contents; before = out.old; after = out.new } }
     ensures untouched { result ≡ 2 → out.new ≡ out.old }
 {
     match found.subcommand() {

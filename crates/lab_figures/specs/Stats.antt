@@ -1,10 +1,8 @@
 -- What `stats` prints of a device.
 use Rattle.std.specs.Prelude.{◌≡◌, ◌<◌, ◌≤◌, ℕ, Bool, true, false, List, [], ◌++◌, codes}
 use Rattle.std.specs.List.{flat_map}
-use Rattle.clap.specs.Walk.{Row, Text, first_of}
-use Rattle.command_output.specs.Printing.{Known, PrintsText}
+use Rattle.clap.specs.Walk.{Row, first_of}
 use Rattle.disk_trait.specs.Disk.{DiskView}
-use Rattle.disk_trait.specs.declared.disk.Disk.{Ghosts}
 use Rattle.figure_lines.specs.Figures.{Said, figure_line, figure_rows, figures_data}
 use Rattle.figure_lines.specs.Json.{json_line}
 use Rattle.figure_lines.specs.NodeRows.{AreNodeRows, node_line, node_rows, nodes_data}
@@ -18,6 +16,7 @@ use Rattle.lab_figures.specs.declared.stats.Asked.{Asked}
 use Rattle.lab_figures.specs.declared.stats.Layout.{Layout}
 use Rattle.lab_figures.specs.declared.stats.Layout.TheVariants.{Lines, Csv, Json}
 use Rattle.lab_parts.specs.Devices.{OfDevice}
+use Rattle.lab_parts.specs.Places.{OutputStep, Place, Prints}
 use Rattle.lab_parts.specs.States.{Holds, HoldsState}
 use Rattle.lab_parts.specs.Words.{AreLandmarks, IsFlag, IsUsual}
 use Rattle.layout_2.specs.Loading.{IsNotLoaded, IsRead}
@@ -82,12 +81,12 @@ pub record AreStatsOf (asked : Asked) (graph : Network) (generation : ℕ) (text
   pub of : IsTextOf asked graph scheme text
 
 -- The text of figures was printed; where the device keeps the model, they are those of the state that stands on it.
-pub record PrintsStats (asked : Asked) (disk left : DiskView) {W : Type 0} (contents : W → Known) (old new : W) : Type 0 where
+pub record PrintsStats (asked : Asked) (disk left : DiskView) {W : Type 0} (out : OutputStep W) : Type 0 where
   pub state : State
   pub text : List ℕ
   pub holds : Holds disk left state
   pub are : AreStatsOf asked state.graph state.count text
-  pub printed : PrintsText contents old new text
+  pub printed : Prints out text
 
 -- the flags of a layout
 abbrev pub is_csv : Layout → Bool
@@ -112,13 +111,13 @@ pub record IsAsked (rows : List Row) (asked : Asked) : Type 0 where
   pub by_node : IsFlag rows (codes "by-node") asked.by_node
 
 -- the text of what is asked for was printed
-abbrev pub PrintsStatsFor : List Row → DiskView → DiskView → {W : Type 0} → (W → Known) → W → W → Type 0
-PrintsStatsFor rows disk left contents old new = (asked : Asked) × IsAsked rows asked × PrintsStats asked disk left contents old new
+abbrev pub PrintsStatsFor : List Row → DiskView → DiskView → {W : Type 0} → OutputStep W → Type 0
+PrintsStatsFor rows disk left out = (asked : Asked) × IsAsked rows asked × PrintsStats asked disk left out
 
 -- what the command does where it ends with status 0: it prints the figures of a scheme of the device that the words name
-abbrev pub DoesStats : {D : Type 0} → Ghosts D → (Text → D → Type 0) → (D → Type 0) → List Row → {W : Type 0} → (W → Known) → W → W → Type 0
-DoesStats model opened closed rows contents old new =
-    OfDevice opened closed rows (λ path disk left. PrintsStatsFor rows (model.view disk) (model.view left) contents old new)
+abbrev pub DoesStats : {D : Type 0} → Place D → List Row → {W : Type 0} → OutputStep W → Type 0
+DoesStats place rows out =
+    OfDevice place.had place.closed rows (λ path disk left. PrintsStatsFor rows (place.model.view disk) (place.model.view left) out)
 
 -- why none are: the device is refused, or the words name a node that it hasn't
 abbrev pub IsStatsRefused : Asked → DiskView → DiskView → FiguresRefused → Type 0

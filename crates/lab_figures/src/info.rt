@@ -35,7 +35,9 @@ where
     E: Write,
     ensures few { result ≤ 2 }
     // 0 only where it was printed, and 2 only where nothing was.
-    ensures printed { result ≡ 0 → DoesInfo R.Device.Disk R.opened R.closed (rows_in found.now) O.contents out.old out.new }
+    ensures printed { result ≡ 0 → DoesInfo
+        record { model = R.Device.Disk; had = R.opened; closed = R.closed; stands = R.stands } (rows_in found.now)
+        record { contents = O.contents; before = out.old; after = out.new } }
     ensures untouched { result ≡ 2 → out.new ≡ out.old }
 {
     let Some(path) = given(found, "device") else {
@@ -61,7 +63,8 @@ pub fn info_on<D: Disk, O: Write>(
     as_json: bool,
     out: &mut O,
 ) -> Result<(), FiguresRefused>
-    ensures printed { OnOk result (PrintsInfo as_json (D.view disk.old) (D.view disk.new) O.contents out.old out.new) }
+    ensures printed { OnOk result (PrintsInfo as_json (D.view disk.old) (D.view disk.new)
+        record { contents = O.contents; before = out.old; after = out.new }) }
     ensures refused { IfErr result (λ refused. IsInfoRefused (D.view disk.old) (D.view disk.new) refused) }
     ensures untouched { IfErr result (λ refused. refused ≢ FiguresRefused.Print PrintRefused.Output → out.new ≡ out.old) }
 {

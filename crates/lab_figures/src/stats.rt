@@ -90,7 +90,9 @@ where
     E: Write,
     ensures few { result ≤ 2 }
     // 0 only where they were printed, and 2 only where nothing was.
-    ensures printed { result ≡ 0 → DoesStats R.Device.Disk R.opened R.closed (rows_in found.now) O.contents out.old out.new }
+    ensures printed { result ≡ 0 → DoesStats
+        record { model = R.Device.Disk; had = R.opened; closed = R.closed; stands = R.stands } (rows_in found.now)
+        record { contents = O.contents; before = out.old; after = out.new } }
     ensures untouched { result ≡ 2 → out.new ≡ out.old }
 {
     let Some(path) = given(found, "device") else {
@@ -164,7 +166,8 @@ where
     R: Threads + Wait + Sync + AllocGlobal,
     D: Disk,
     O: Write,
-    ensures printed { OnOk result (PrintsStats asked.now (D.view disk.old) (D.view disk.new) O.contents out.old out.new) }
+    ensures printed { OnOk result (PrintsStats asked.now (D.view disk.old) (D.view disk.new)
+        record { contents = O.contents; before = out.old; after = out.new }) }
     ensures refused { IfErr result (λ refused. IsStatsRefused asked.now (D.view disk.old) (D.view disk.new) refused) }
     ensures untouched { IfErr result (λ refused. refused ≢ FiguresRefused.Print PrintRefused.Output → out.new ≡ out.old) }
 {

@@ -2,7 +2,6 @@
 use Rattle.std.specs.Prelude.{◌≡◌, ◌⊎◌, ◌++◌, ℕ, List, [], Option, Some, None, map}
 use Rattle.std.specs.Borrow.{Bor}
 use Rattle.std.specs.FinMap.{entries}
-use Rattle.command_output.specs.Printing.{Known, PrintsText}
 use Rattle.edge_lists.specs.declared.edge.Edge.{Edge}
 use Rattle.edge_lists.specs.Labels.{AreLabels}
 use Rattle.edge_lists.specs.Linked.{network_text}
@@ -14,6 +13,7 @@ use Rattle.lab_files.specs.declared.networks.ExportRefused.{ExportRefused}
 use Rattle.lab_files.specs.declared.networks.ExportRefused.TheVariants.{Words, Print}
 use Rattle.lab_files.specs.declared.networks.Form.{Form}
 use Rattle.lab_files.specs.declared.networks.Form.TheVariants.{Edges, Csv, Dimacs, Json, Dot}
+use Rattle.lab_parts.specs.Places.{OutputStep, Prints}
 use Rattle.landmarks.specs.Chosen.{IsBound, chosen}
 use Rattle.value_syntax.specs.Reading.{texts_of}
 use Rattle.value_syntax.specs.Words.{AreWords, IsWithin}
@@ -52,8 +52,8 @@ abbrev pub IsTextOf : Network → NameList → Form → List ℕ → Type 0
 IsTextOf graph names form text = (edges : List Edge) × (map edge_at edges ≡ entries graph.edges) × IsText graph names form edges text
 
 -- this was printed, and nothing else
-abbrev pub PrintsNetwork : Network → NameList → Form → {W : Type 0} → (W → Known) → W → W → Type 0
-PrintsNetwork graph names form contents old new = (text : List ℕ) × IsTextOf graph names form text × PrintsText contents old new text
+abbrev pub PrintsNetwork : Network → NameList → Form → {W : Type 0} → OutputStep W → Type 0
+PrintsNetwork graph names form out = (text : List ℕ) × IsTextOf graph names form text × Prints out text
 
 -- the words of a picture name a node that the network hasn't
 abbrev pub LacksNode : Network → Form → Type 0

@@ -64,7 +64,8 @@ pub fn export_graph<O: Write>(
     form: &Form,
     out: &mut O,
 ) -> Result<(), ExportRefused>
-    ensures printed { OnOk result (PrintsNetwork graph.now names.now form.now O.contents out.old out.new) }
+    ensures printed { OnOk result (PrintsNetwork graph.now names.now form.now
+        record { contents = O.contents; before = out.old; after = out.new }) }
     ensures refused { IfErr result (λ refused. IsExportRefused graph.now form.now refused) }
     ensures untouched { IfErr result (λ refused. refused ≢ ExportRefused.Print PrintRefused.Output → out.new ≡ out.old) }
 {

@@ -154,7 +154,7 @@ pub fn network_in<E: Write>(
     match (form, scale) {
         (FileForm::Lines(Writing::Edges(heading, _)), Some(scale)) => {
             let listed = lines_in(alloc, file, text, Writing::Edges(heading, Some(scale)), err)?;
-            tell_error(alloc, file, text, &listed.rows, heading, scale, err);
+            tell_error(alloc, file, text, &listed, err);
             Ok(listed)
         }
         (_, Some(_)) => Err(told(err, 2, "--scale goes with edge lists")),
@@ -164,19 +164,14 @@ pub fn network_in<E: Write>(
 }
 
 // Tells how far a weight of a list that is multiplied is at most from what it should be. It is read once more, in thousandths.
-fn tell_error<E: Write>(
-    alloc: Global,
-    file: &str,
-    text: &str,
-    rows: &[Row],
-    heading: Heading,
-    scale: u32,
-    err: &mut E,
-) {
+fn tell_error<E: Write>(alloc: Global, file: &str, text: &str, listed: &Listed, err: &mut E) {
+    let FileForm::Lines(Writing::Edges(heading, Some(scale))) = listed.form else {
+        return;
+    };
     let fine = Writing::Edges(heading, Some(scale.saturating_mul(1000)));
     if let Ok(Ok(exact)) = read_rows(alloc, text, fine) {
         let mut most: u64 = 0;
-        for (row, exact) in rows.iter().zip(&exact) {
+        for (row, exact) in listed.rows.iter().zip(&exact) {
             most = most.max((row.weight as u64 * 1000).abs_diff(exact.weight as u64));
         }
         let _told = writeln!(

@@ -2,7 +2,6 @@
 use Rattle.std.specs.Prelude.{◌≡◌, ◌-◌, ℕ, Bool, true, false, not, Option, Some, None, List, [], ◌∷◌, ◌++◌, codes, cond, decimal, map}
 use Rattle.std.specs.List.{flat_map}
 use Rattle.std.specs.String.{string_bytes}
-use Rattle.command_output.specs.Printing.{Known, PrintsText}
 use Rattle.graph_edits.specs.Edges.{Network}
 use Rattle.figure_lines.specs.Figures.{figure_line, said}
 use Rattle.landmark_choice.specs.Choices.{IsChoice, IsFourRoots}
@@ -14,6 +13,7 @@ use Rattle.lab_landmarks.specs.declared.choosing.Wanted.{Wanted}
 use Rattle.lab_landmarks.specs.declared.chosen.Chosen.{Chosen}
 use Rattle.lab_landmarks.specs.declared.chosen.Chosen.TheVariants.{Kept, Over, Output, Memory}
 use Rattle.lab_landmarks.specs.declared.reports.Report.{Report}
+use Rattle.lab_parts.specs.Places.{OutputStep, Prints}
 
 -- the limit that is named, or four times the square root of the nodes
 abbrev pub IsLimit : Option ℕ → ℕ → ℕ → Type 0
@@ -64,16 +64,15 @@ abbrev pub IsAnswer : Network → ℕ → Wanted → Answer → Type 0
 IsAnswer m generation wanted answer = IsSaid m generation wanted (string_bytes answer.text) (string_bytes answer.told) answer.is_kept
 
 -- the text of a choice was printed, and the other one is to be told of it
-abbrev pub IsAnswered : Network → ℕ → Wanted → Bool → List ℕ → {W : Type 0} → (W → Known) → W → W → Type 0
-IsAnswered m generation wanted is_kept told contents old new =
-    (text : List ℕ) × IsSaid m generation wanted text told is_kept × PrintsText contents old new text
+abbrev pub IsAnswered : Network → ℕ → Wanted → Bool → List ℕ → {W : Type 0} → OutputStep W → Type 0
+IsAnswered m generation wanted is_kept told out = (text : List ℕ) × IsSaid m generation wanted text told is_kept × Prints out text
 
 -- What became of a choice: it was printed and keeps the limits, or doesn't; or the output failed; or memory ran out, and nothing was printed.
-abbrev pub HasChosen : Network → ℕ → Wanted → {W : Type 0} → (W → Known) → W → W → Chosen → Type 0
-HasChosen m generation wanted contents old new (Kept told) = IsAnswered m generation wanted true (string_bytes told) contents old new
-HasChosen m generation wanted contents old new (Over told) = IsAnswered m generation wanted false (string_bytes told) contents old new
-HasChosen m generation wanted contents old new Output = Unit {0}
-HasChosen m generation wanted contents old new Memory = new ≡ old
+abbrev pub HasChosen : Network → ℕ → Wanted → {W : Type 0} → OutputStep W → Chosen → Type 0
+HasChosen m generation wanted out (Kept told) = IsAnswered m generation wanted true (string_bytes told) out
+HasChosen m generation wanted out (Over told) = IsAnswered m generation wanted false (string_bytes told) out
+HasChosen m generation wanted out Output = Unit {0}
+HasChosen m generation wanted out Memory = out.after ≡ out.before
 
 -- a choice keeps the limits and was printed
 abbrev pub IsKept : Chosen → Type 0

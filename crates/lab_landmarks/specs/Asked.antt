@@ -1,12 +1,11 @@
 -- What the command is asked for, and what it prints of a device.
 use Rattle.std.specs.Prelude.{◌≡◌, ℕ, List, Option, Some, None, true, codes, decimal, option_map}
 use Rattle.clap.specs.Walk.{Row, Text, first_of}
-use Rattle.command_output.specs.Printing.{Known}
 use Rattle.disk_trait.specs.Disk.{DiskView}
-use Rattle.disk_trait.specs.declared.disk.Disk.{Ghosts}
 use Rattle.lab_landmarks.specs.Answers.{IsAnswered}
 use Rattle.lab_landmarks.specs.declared.choosing.Wanted.{Wanted}
 use Rattle.lab_parts.specs.Devices.{OfDevice}
+use Rattle.lab_parts.specs.Places.{OutputStep, Place}
 use Rattle.lab_parts.specs.States.{Holds}
 use Rattle.lab_parts.specs.Words.{IsFlag, IsUsual}
 use Rattle.landmark_choice.specs.declared.starts.Start.{Start}
@@ -34,15 +33,15 @@ pub record IsWanted (rows : List Row) (wanted : Wanted) : Type 0 where
   pub with_figures : IsFlag rows (codes "figures") wanted.with_figures
 
 -- The text of a choice that keeps its limits was printed; where the device keeps the model, it was made for the state that stands on it.
-pub record PrintsChoiceFor (rows : List Row) (disk left : DiskView) {W : Type 0} (contents : W → Known) (old new : W) : Type 0 where
+pub record PrintsChoiceFor (rows : List Row) (disk left : DiskView) {W : Type 0} (out : OutputStep W) : Type 0 where
   pub state : State
   pub wanted : Wanted
   pub told : List ℕ
   pub holds : Holds disk left state
   pub asked : IsWanted rows wanted
-  pub answered : IsAnswered state.graph state.count wanted true told contents old new
+  pub answered : IsAnswered state.graph state.count wanted true told out
 
 -- what the command does where it ends with status 0: it prints a choice for the device that the words name
-abbrev pub DoesLandmarks : {D : Type 0} → Ghosts D → (Text → D → Type 0) → (D → Type 0) → List Row → {W : Type 0} → (W → Known) → W → W → Type 0
-DoesLandmarks model opened closed rows contents old new =
-    OfDevice opened closed rows (λ path disk left. PrintsChoiceFor rows (model.view disk) (model.view left) contents old new)
+abbrev pub DoesLandmarks : {D : Type 0} → Place D → List Row → {W : Type 0} → OutputStep W → Type 0
+DoesLandmarks place rows out =
+    OfDevice place.had place.closed rows (λ path disk left. PrintsChoiceFor rows (place.model.view disk) (place.model.view left) out)

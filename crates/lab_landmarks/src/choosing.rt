@@ -54,7 +54,8 @@ where
     R: AllocGlobal + Threads + Wait + Sync,
     O: Write,
     E: Write,
-    ensures { HasChosen graph.now generation wanted O.contents out.old out.new result }
+    ensures { HasChosen graph.now generation wanted
+        record { contents = O.contents; before = out.old; after = out.new } result }
 {
     let answer = answer_of(rt, graph, generation, wanted, err);
     progress(err, wanted, "");

@@ -67,7 +67,9 @@ where
     E: Write + IsTerminal,
     ensures few { result ≤ 2 }
     // 0 only where landmarks that keep the limits were printed, and 2 only where nothing was.
-    ensures printed { result ≡ 0 → DoesLandmarks R.Device.Disk R.opened R.closed (rows_in found.now) O.contents out.old out.new }
+    ensures printed { result ≡ 0 → DoesLandmarks
+        record { model = R.Device.Disk; had = R.opened; closed = R.closed; stands = R.stands } (rows_in found.now)
+        record { contents = O.contents; before = out.old; after = out.new } }
     ensures untouched { result ≡ 2 → out.new ≡ out.old }
 {
     let Some(path) = given(found, "device") else {

@@ -5,21 +5,20 @@ use Rattle.std.specs.Result.{IsOkAnd}
 use Rattle.std.specs.Borrow.{Bor}
 use Rattle.std.specs.Global.{Vec}
 use Rattle.std.proofs.lemmas.List.{flat_map_more, take_more}
-use Rattle.command_output.specs.Printing.{Known}
 use Rattle.command_output.specs.declared.ended.Ended.{Ended}
 use Rattle.command_output.specs.declared.fault.Fault.{Fault as Told}
-use Rattle.disk_trait.specs.Disk.{DiskView}
 use Rattle.edge_lists.specs.declared.called.Called.{Called}
-use Rattle.lab_names.specs.Routes.{ArePairsBy, HasRouted, IsRouted, IsRouteFault, IsUnrouted, PrintsWays, nodes_of}
+use Rattle.lab_names.specs.Routes.{ArePairsBy, HasRouted, IsRoutedOn, IsRouteFault, IsUnrouted, PrintsWays, nodes_of}
 use Rattle.lab_names.specs.declared.refused.AskedRefused.TheVariants.{Fault}
+use Rattle.lab_parts.specs.Places.{DeviceStep, OutputStep}
 use Rattle.scheme_builds.specs.declared.queries.Route.{Route}
 use Rattle.value_syntax.specs.declared.words.LandmarkWords.{LandmarkWords}
 
 -- the routes were printed
-pub routed : (called : Called) (words : List (Bor (List ℕ))) (asked : LandmarkWords) (disk left : DiskView) {W : Type 0} (contents : W → Known) (old new : W) (ended : Ended) (pairs : List (ℕ × ℕ)) (answer : Result (ℕ × Vec Route) Told)
-    → ArePairsBy called words pairs → IsRouted asked pairs disk left answer → IsOkAnd answer (PrintsWays called contents old new ended) → HasRouted called words asked disk left contents old new ended
-routed called words asked disk left contents old new ended pairs (Err fault) by routes printed = absurd printed
-routed called words asked disk left contents old new ended pairs (Ok answer) by routes printed = record {
+pub routed : (called : Called) (words : List (Bor (List ℕ))) (asked : LandmarkWords) {D : Type 0} (device : DeviceStep D) {W : Type 0} (out : OutputStep W) (ended : Ended) (pairs : List (ℕ × ℕ)) (answer : Result (ℕ × Vec Route) Told)
+    → ArePairsBy called words pairs → IsRoutedOn asked pairs device answer → IsOkAnd answer (PrintsWays called out ended) → HasRouted called words asked device out ended
+routed called words asked device out ended pairs (Err fault) by routes printed = absurd printed
+routed called words asked device out ended pairs (Ok answer) by routes printed = record {
   pairs = pairs;
   answer = answer;
   by = by;
@@ -28,11 +27,11 @@ routed called words asked disk left contents old new ended pairs (Ok answer) by 
 }
 
 -- or they weren't
-pub unrouted : (called : Called) (words : List (Bor (List ℕ))) (asked : LandmarkWords) (disk left : DiskView) (pairs : List (ℕ × ℕ)) (answer : Result (ℕ × Vec Route) Told) (fault : Told)
-    → ArePairsBy called words pairs → IsRouted asked pairs disk left answer → IsUnrouted answer fault → IsRouteFault called words asked disk left (Fault fault)
-unrouted called words asked disk left pairs answer fault by routes (inl is) = (pairs, by, inl (subst (λ (r : Result (ℕ × Vec Route) Told). IsRouted asked pairs disk left r) is routes))
-unrouted called words asked disk left pairs (Ok answer) fault by routes (inr why) = (pairs, by, inr (why.0, (answer, routes)))
-unrouted called words asked disk left pairs (Err other) fault by routes (inr why) =
+pub unrouted : (called : Called) (words : List (Bor (List ℕ))) (asked : LandmarkWords) {D : Type 0} (device : DeviceStep D) (pairs : List (ℕ × ℕ)) (answer : Result (ℕ × Vec Route) Told) (fault : Told)
+    → ArePairsBy called words pairs → IsRoutedOn asked pairs device answer → IsUnrouted answer fault → IsRouteFault called words asked device (Fault fault)
+unrouted called words asked device pairs answer fault by routes (inl is) = (pairs, by, inl (subst (λ (r : Result (ℕ × Vec Route) Told). IsRoutedOn asked pairs device r) is routes))
+unrouted called words asked device pairs (Ok answer) fault by routes (inr why) = (pairs, by, inr (why.0, (answer, routes)))
+unrouted called words asked device pairs (Err other) fault by routes (inr why) =
     let no : false ≡ true = why.1 in
     absurd cc
 

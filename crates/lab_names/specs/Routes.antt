@@ -4,7 +4,6 @@ use Rattle.std.specs.Borrow.{Bor}
 use Rattle.std.specs.Global.{Vec}
 use Rattle.std.specs.List.{AllZip, flat_map}
 use Rattle.command_output.specs.Lines.{line}
-use Rattle.command_output.specs.Printing.{Known, PrintsText}
 use Rattle.command_output.specs.RouteLines.{unreachable_text}
 use Rattle.command_output.specs.declared.ended.Ended.{Ended}
 use Rattle.command_output.specs.declared.fault.Fault.{Fault as Told}
@@ -16,6 +15,7 @@ use Rattle.disk_trait.specs.Disk.{DiskView}
 use Rattle.edge_lists.specs.declared.called.Called.{Called}
 use Rattle.lab_names.specs.declared.refused.AskedRefused.{AskedRefused}
 use Rattle.lab_names.specs.declared.refused.AskedRefused.TheVariants.{Word, Fault}
+use Rattle.lab_parts.specs.Places.{DeviceStep, OutputStep, Prints}
 use Rattle.node_names.specs.Readings.{IsToldOf}
 use Rattle.node_names.specs.Texts.{route_text}
 use Rattle.node_names.specs.Words.{StandsFor}
@@ -49,18 +49,22 @@ way_lines called generation routes = flat_map (way_line called generation) route
 abbrev pub IsRouted : LandmarkWords → List (ℕ × ℕ) → DiskView → DiskView → Result (ℕ × Vec Route) Told → Type 0
 IsRouted asked pairs disk left answer = AnswersOf asked (AreRoutesIn pairs) IsRouteDeviceFault disk left answer × LacksNodeOf asked pairs disk answer
 
+-- .. of this one
+abbrev pub IsRoutedOn : LandmarkWords → List (ℕ × ℕ) → {D : Type 0} → DeviceStep D → Result (ℕ × Vec Route) Told → Type 0
+IsRoutedOn asked pairs device answer = IsRouted asked pairs (device.model.view device.before) (device.model.view device.after) answer
+
 -- what is printed of an answer
-abbrev pub PrintsWays : Called → {W : Type 0} → (W → Known) → W → W → Ended → ℕ × Vec Route → Type 0
-PrintsWays called contents old new ended answer = (ended ≡ ended_after answer.1.items) × PrintsText contents old new (way_lines called answer.0 answer.1.items)
+abbrev pub PrintsWays : Called → {W : Type 0} → OutputStep W → Ended → ℕ × Vec Route → Type 0
+PrintsWays called out ended answer = (ended ≡ ended_after answer.1.items) × Prints out (way_lines called answer.0 answer.1.items)
 
 -- The routes between the nodes for which these words stand were found on the device, by the call that finds each route, and printed.
-pub record HasRouted (called : Called) (words : List (Bor (List ℕ))) (asked : LandmarkWords) (disk left : DiskView)
-    {W : Type 0} (contents : W → Known) (old new : W) (ended : Ended) : Type 0 where
+pub record HasRouted (called : Called) (words : List (Bor (List ℕ))) (asked : LandmarkWords) {D : Type 0} (device : DeviceStep D)
+    {W : Type 0} (out : OutputStep W) (ended : Ended) : Type 0 where
   pub pairs : List (ℕ × ℕ)
   pub answer : ℕ × Vec Route
   pub by : ArePairsBy called words pairs
-  pub routed : IsRouted asked pairs disk left (Ok answer)
-  pub printed : PrintsWays called contents old new ended answer
+  pub routed : IsRoutedOn asked pairs device (Ok answer)
+  pub printed : PrintsWays called out ended answer
 
 -- there are no pairs of nodes: a word stands for no node, or there is one word too many; or no memory
 abbrev pub IsNoPairs : Called → List (Bor (List ℕ)) → AskedRefused → Type 0
@@ -68,10 +72,10 @@ IsNoPairs called words (Word refused) = IsToldOf called refused × (refused ≢ 
 IsNoPairs called words (Fault fault) = ((fault ≡ Usage) × (length words % 2 ≡ 1)) ⊎ (fault ≡ NoRoom)
 
 -- the call answered this fault, of pairs for which the words stand; or what it answered couldn't be printed, or memory ran out
-abbrev pub IsRouteFault : Called → List (Bor (List ℕ)) → LandmarkWords → DiskView → DiskView → AskedRefused → Type 0
-IsRouteFault called words asked disk left (Word refused) = ⊥
-IsRouteFault called words asked disk left (Fault fault) = (pairs : List (ℕ × ℕ)) × ArePairsBy called words pairs
-    × (IsRouted asked pairs disk left (Err fault) ⊎ (((fault ≡ Output) ⊎ (fault ≡ NoRoom)) × ((answer : ℕ × Vec Route) × IsRouted asked pairs disk left (Ok answer))))
+abbrev pub IsRouteFault : Called → List (Bor (List ℕ)) → LandmarkWords → {D : Type 0} → DeviceStep D → AskedRefused → Type 0
+IsRouteFault called words asked device (Word refused) = ⊥
+IsRouteFault called words asked device (Fault fault) = (pairs : List (ℕ × ℕ)) × ArePairsBy called words pairs
+    × (IsRoutedOn asked pairs device (Err fault) ⊎ (((fault ≡ Output) ⊎ (fault ≡ NoRoom)) × ((answer : ℕ × Vec Route) × IsRoutedOn asked pairs device (Ok answer))))
 
 -- the fault of an answer, or that it couldn't be printed
 abbrev pub IsUnrouted : Result (ℕ × Vec Route) Told → Told → Type 0

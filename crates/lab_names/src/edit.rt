@@ -8,7 +8,7 @@ ghost use Rattle.lab_parts.specs.Grammar.{IsCommandOf};
 ghost use Rattle.lab_parts.specs.Words.{IsUsual, rows_in};
 ghost use Rattle.requests.specs.Tickets.{sessions};
 
-use crate::editing::edit_named;
+use crate::editing::{NamedEdit, edit_named};
 use clap::{ArgMatches, Command};
 use command_output::{Ended, Fault};
 use disk_trait::Disk;
@@ -51,15 +51,6 @@ pub fn grammar<'a>(alloc: Global) -> Result<Command<'a>, AllocError>
     command(alloc, "edit", about, &said)
 }
 
-// What is asked for.
-#[derive(Clone, Copy, Drop)]
-struct Asked<'a> {
-    path: &'a str,
-    session: u8,
-    ticket: Option<u64>,
-    ops: &'a [&'a str],
-}
-
 /// Makes the change that these matches ask for, prints what became of it, and answers the exit status.
 pub fn run<R, O, E>(rt: &R, found: &ArgMatches<'_>, out: &mut O, err: &mut E) -> u8
 where
@@ -68,7 +59,9 @@ where
     E: Write,
     ensures few { result ≤ 2 }
     // 0 only where it was made and this was printed, and 2 only where nothing was.
-    ensures printed { result ≡ 0 → DoesEdit R.Device.Disk R.held R.closed R.stands (rows_in found.now) O.contents out.old out.new }
+    ensures printed { result ≡ 0 → DoesEdit
+        record { model = R.Device.Disk; had = R.held; closed = R.closed; stands = R.stands } (rows_in found.now)
+        record { contents = O.contents; before = out.old; after = out.new } }
     ensures untouched { result ≡ 2 → out.new ≡ out.old }
 {
     let (Some(path), Some(ops)) = (given(found, "device"), all_given(found, "ops")) else {
@@ -83,13 +76,12 @@ where
         Ok(device) => device,
         Err(refused) => return told_of(err, path, fault_of(refused)),
     };
-    let asked = Asked {
-        path,
+    let edit = NamedEdit {
         session,
         ticket,
         ops,
     };
-    let (ended, device) = edit_on(rt, device, asked, out, err);
+    let (ended, device) = edit_on(rt, device, path, edit, out, err);
     rt.close(device);
     match ended {
         Ok(ended) => ended.status(),
@@ -120,7 +112,8 @@ fn numbers_in(
 fn edit_on<R, D, O, E>(
     rt: &R,
     mut disk: D,
-    asked: Asked<'_>,
+    path: &str,
+    edit: NamedEdit<'_>,
     out: &mut O,
     err: &mut E,
 ) -> (Result<Ended, u8>, D)
@@ -129,13 +122,14 @@ where
     D: Disk,
     O: Write,
     E: Write,
-    requires { asked.session < sessions }
-    ensures printed { IfOk result.0 (PrintsEdit D.Disk R.stands asked.entry.session asked.entry.ticket asked.entry.ops.now asked.entry.path.now
-        disk result.1 O.contents out.old out.new) }
+    requires { edit.session < sessions }
+    ensures printed { IfOk result.0 (PrintsEdit R.stands path.now edit.entry
+        record { model = D.Disk; before = disk; after = result.1 }
+        record { contents = O.contents; before = out.old; after = out.new }) }
     ensures err { IfErr result.0 IsRefusal }
     ensures untouched { IfErr result.0 (λ status. status ≡ 2 → out.new ≡ out.old) }
 {
-    let (alloc, path) = (rt.alloc(), asked.path);
+    let alloc = rt.alloc();
     let loaded = match loaded_of(alloc, &mut disk) {
         Ok(loaded) => loaded,
         Err(fault) => return (Err(told_of(err, path, fault)), disk),
@@ -151,8 +145,7 @@ where
     if let Err(status) = beside.settle(rt, err) {
         return (Err(status), disk);
     }
-    let (session, ticket) = (asked.session, asked.ticket);
-    let (ended, disk) = edit_named(rt, disk, &called, session, ticket, asked.ops, out);
+    let (ended, disk) = edit_named(rt, disk, &called, edit, out);
     match ended {
         Ok(ended) => (Ok(ended), disk),
         Err(refused) => (Err(refused.told(err, path)), disk),

@@ -19,39 +19,44 @@ use std::io::Write;
 use std::sync::Wait;
 use std::thread::Threads;
 
-/// Makes one change of a device, of the ops that these texts are by what its nodes are called, and prints what became of it. It is made by
-/// `edit` of `device_commands`, as the program makes it, under this ticket of the session or under the next one.
+/// An edit by names that is asked for.
+#[derive(Clone, Copy, Drop)]
+pub struct NamedEdit<'a> {
+    /// The session, 0 to 63.
+    pub session: u8,
+    /// The ticket, or none for the session's next one.
+    pub ticket: Option<u64>,
+    /// The ops, a text each.
+    pub ops: &'a [&'a str],
+}
+
+/// Makes one change of a device, of the ops that the texts of an edit are by what its nodes are called, and prints what became of it. It is
+/// made by `edit` of `device_commands`, as the program makes it, under the edit's ticket of its session or under the next one.
 #[tactic(auto, using(crate::proofs::Edited::edited, crate::proofs::Edited::untold))]
 pub fn edit_named<'a, R, D, O>(
     rt: &R,
     disk: D,
     called: &Called<'_>,
-    session: u8,
-    ticket: Option<u64>,
-    texts: &[&'a str],
+    edit: NamedEdit<'a>,
     out: &mut O,
 ) -> (Result<Ended, AskedRefused<'a>>, D)
 where
     R: Threads + Wait + Sync + AllocGlobal,
     D: Disk,
     O: Write,
-    requires { session < sessions }
-    ensures edited { IfOk result.0 (HasEdited called.now texts.now session ticket (D.view disk) (D.view result.1) O.contents out.old out.new) }
+    requires { edit.session < sessions }
+    ensures edited { IfOk result.0 (HasEdited called.now edit.entry
+        record { model = D.Disk; before = disk; after = result.1 }
+        record { contents = O.contents; before = out.old; after = out.new }) }
     // There is no change, and the device is as it was; or the edit's own fault.
-    ensures refused { IfErr result.0 (λ refused. ((result.1 ≡ disk) × IsNoChange called.now texts.now refused)
-        ⊎ IsEditFault called.now texts.now session ticket (D.view disk) (D.view result.1) refused) }
+    ensures refused { IfErr result.0 (λ refused. ((result.1 ≡ disk) × IsNoChange called.now edit.entry.ops.now refused)
+        ⊎ IsEditFault called.now edit.entry record { model = D.Disk; before = disk; after = result.1 } refused) }
     ensures untouched { IfErr result.0 (λ refused. refused ≢ AskedRefused.Fault Fault.Output → out.new ≡ out.old) }
 {
-    match change_by(rt.alloc(), called, texts) {
+    match change_by(rt.alloc(), called, edit.ops) {
         Ok(change) => {
-            let (answer, disk) = device_commands::edit(
-                rt,
-                rt.alloc(),
-                disk,
-                session,
-                ticket,
-                change,
-            );
+            let (alloc, session, ticket) = (rt.alloc(), edit.session, edit.ticket);
+            let (answer, disk) = device_commands::edit(rt, alloc, disk, session, ticket, change);
             match print_verdict(out, answer) {
                 Ok(ended) => (Ok(ended), disk),
                 Err(fault) => (Err(AskedRefused::Fault(fault)), disk),
@@ -99,7 +104,8 @@ fn ops_by<'a>(
 
 // Prints what became of a change.
 fn print_verdict<O: Write>(out: &mut O, answer: Result<Verdict, Fault>) -> Result<Ended, Fault>
-    ensures ended { IfOk result (λ ended. IsOkAnd answer (PrintsVerdict O.contents out.old out.new ended)) }
+    ensures ended { IfOk result (λ ended. IsOkAnd answer (PrintsVerdict
+        record { contents = O.contents; before = out.old; after = out.new } ended)) }
     ensures fault { IfErr result (λ fault. IsUntold answer fault) }
     ensures untouched { IfErr result (λ fault. fault ≢ Fault.Output → out.new ≡ out.old) }
 {

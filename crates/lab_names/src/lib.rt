@@ -9,8 +9,8 @@
 //!
 //! How nodes stand in words and lines is said in `node_names`. Of a device without names they are numbers.
 //!
-//! The contracts that the program uses, over any device and writer, and by what nodes are called: [`edit_named`] makes the change by the call of
-//! `device_commands` that makes each edit, of the ops for which the texts stand, and prints its answer (`HasEdited` of `specs/Edits`);
+//! The contracts that the program uses, over any device and writer, and by what nodes are called: [`edit_named`] makes a [`NamedEdit`] by the call of
+//! `device_commands` that makes each edit, of the ops for which its texts stand, and prints its answer (`HasEdited` of `specs/Edits`);
 //! [`route_named`] finds the routes by the call of `file_commands` that finds each route, between the nodes for which the words stand, and prints them
 //! (`HasRouted` of `specs/Routes`);
 //! [`show_graph`] prints the listing of `node_names`. Where a word stands for no node, or a text is no op, nothing is printed, and the device is
@@ -26,7 +26,7 @@ pub mod route;
 pub mod show;
 mod ways;
 
-pub use editing::edit_named;
+pub use editing::{NamedEdit, edit_named};
 pub use listing::show_graph;
 pub use refused::AskedRefused;
 pub use ways::route_named;

@@ -52,7 +52,9 @@ where
     E: Write,
     ensures few { result ≤ 2 }
     // 0 only where each was found and printed, and 2 only where nothing was.
-    ensures printed { result ≡ 0 → DoesRoute R.Device.Disk R.opened R.closed R.stands (rows_in found.now) O.contents out.old out.new }
+    ensures printed { result ≡ 0 → DoesRoute
+        record { model = R.Device.Disk; had = R.opened; closed = R.closed; stands = R.stands } (rows_in found.now)
+        record { contents = O.contents; before = out.old; after = out.new } }
     ensures untouched { result ≡ 2 → out.new ≡ out.old }
 {
     let (Some(path), Some(nodes)) = (given(found, "device"), all_given(found, "nodes")) else {
@@ -92,8 +94,9 @@ where
     D: Disk,
     O: Write,
     E: Write,
-    ensures printed { IfOk result.0 (PrintsRoutes D.Disk R.stands asked.entry.words.now asked.entry.nodes.now asked.entry.path.now
-        disk result.1 O.contents out.old out.new) }
+    ensures printed { IfOk result.0 (PrintsRoutes R.stands asked.entry.path.now asked.entry.words.now asked.entry.nodes.now
+        record { model = D.Disk; before = disk; after = result.1 }
+        record { contents = O.contents; before = out.old; after = out.new }) }
     ensures err { IfErr result.0 IsRefusal }
     ensures untouched { IfErr result.0 (λ status. status ≡ 2 → out.new ≡ out.old) }
 {

@@ -34,7 +34,9 @@ where
     E: Write,
     ensures few { result ≤ 2 }
     // 0 only where it was printed, and 2 only where nothing was.
-    ensures printed { result ≡ 0 → DoesShow R.Device.Disk R.opened R.closed R.stands (rows_in found.now) O.contents out.old out.new }
+    ensures printed { result ≡ 0 → DoesShow
+        record { model = R.Device.Disk; had = R.opened; closed = R.closed; stands = R.stands } (rows_in found.now)
+        record { contents = O.contents; before = out.old; after = out.new } }
     ensures untouched { result ≡ 2 → out.new ≡ out.old }
 {
     let Some(path) = given(found, "device") else {
@@ -60,7 +62,7 @@ where
     O: Write,
     E: Write,
     ensures printed { OnOk result (PrintsListing R.stands path.now (D.view disk.old) (D.view disk.new)
-        O.contents out.old out.new) }
+        record { contents = O.contents; before = out.old; after = out.new }) }
     ensures err { IfErr result IsRefusal }
     ensures untouched { IfErr result (λ status. status ≡ 2 → out.new ≡ out.old) }
 {

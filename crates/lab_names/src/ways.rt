@@ -28,10 +28,13 @@ pub fn route_named<'a, D: Disk, O: Write>(
     words: &[&'a str],
     out: &mut O,
 ) -> (Result<Ended, AskedRefused<'a>>, D)
-    ensures printed { IfOk result.0 (HasRouted called.now words.now asked.now (D.view disk) (D.view result.1) O.contents out.old out.new) }
+    ensures printed { IfOk result.0 (HasRouted called.now words.now asked.now
+        record { model = D.Disk; before = disk; after = result.1 }
+        record { contents = O.contents; before = out.old; after = out.new }) }
     // There are no pairs, and the device is as it was; or the fault of the call.
     ensures refused { IfErr result.0 (λ refused. ((result.1 ≡ disk) × IsNoPairs called.now words.now refused)
-        ⊎ IsRouteFault called.now words.now asked.now (D.view disk) (D.view result.1) refused) }
+        ⊎ IsRouteFault called.now words.now asked.now
+        record { model = D.Disk; before = disk; after = result.1 } refused) }
     ensures untouched { IfErr result.0 (λ refused. refused ≢ AskedRefused.Fault Fault.Output → out.new ≡ out.old) }
 {
     match pairs_by(alloc, called, words) {
@@ -105,7 +108,8 @@ fn print_ways<O: Write>(
     answer: Result<(u64, Vec<Route>), Fault>,
     out: &mut O,
 ) -> Result<Ended, Fault>
-    ensures ended { IfOk result (λ ended. IsOkAnd answer (PrintsWays called.now O.contents out.old out.new ended)) }
+    ensures ended { IfOk result (λ ended. IsOkAnd answer (PrintsWays called.now
+        record { contents = O.contents; before = out.old; after = out.new } ended)) }
     ensures fault { IfErr result (λ fault. IsUnrouted answer fault) }
     ensures untouched { IfErr result (λ fault. fault ≢ Fault.Output → out.new ≡ out.old) }
 {

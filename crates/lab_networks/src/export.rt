@@ -52,7 +52,9 @@ where
     E: Write,
     ensures few { result ≤ 2 }
     // 0 only where it was printed, and 2 only where nothing was.
-    ensures printed { result ≡ 0 → DoesExport R.Device.Disk R.opened R.closed R.stands (rows_in found.now) O.contents out.old out.new }
+    ensures printed { result ≡ 0 → DoesExport
+        record { model = R.Device.Disk; had = R.opened; closed = R.closed; stands = R.stands } (rows_in found.now)
+        record { contents = O.contents; before = out.old; after = out.new } }
     ensures untouched { result ≡ 2 → out.new ≡ out.old }
 {
     let Some(path) = given(found, "device") else {
@@ -151,7 +153,7 @@ where
     O: Write,
     E: Write,
     ensures printed { OnOk result (PrintsIn form.now R.stands path.now (D.view disk.old) (D.view disk.new)
-        O.contents out.old out.new) }
+        record { contents = O.contents; before = out.old; after = out.new }) }
     ensures err { IfErr result IsRefusal }
     ensures untouched { IfErr result (λ status. status ≡ 2 → out.new ≡ out.old) }
 {
@@ -176,7 +178,8 @@ fn export_called<O: Write>(
     form: &Form,
     out: &mut O,
 ) -> Result<(), ExportRefused>
-    ensures printed { OnOk result (PrintsCalled graph.now called.entry form.now O.contents out.old out.new) }
+    ensures printed { OnOk result (PrintsCalled graph.now called.entry form.now
+        record { contents = O.contents; before = out.old; after = out.new }) }
     ensures untouched { IfErr result (λ refused. refused ≢ ExportRefused.Print PrintRefused.Output → out.new ≡ out.old) }
 {
     let names = match called {

@@ -89,7 +89,9 @@ where
     E: Write + IsTerminal,
     ensures few { result ≤ 2 }
     // 0 only where it was printed what the device holds then, and 2 only where nothing was.
-    ensures printed { result ≡ 0 → DoesImport R.Device.Disk R.held R.closed (rows_in found.now) O.contents out.old out.new }
+    ensures printed { result ≡ 0 → DoesImport
+        record { model = R.Device.Disk; had = R.held; closed = R.closed; stands = R.stands } (rows_in found.now)
+        record { contents = O.contents; before = out.old; after = out.new } }
     ensures untouched { result ≡ 2 → out.new ≡ out.old }
 {
     let (Some(device), Some(file)) = (given(found, "device"), given(found, "file")) else {
@@ -191,7 +193,9 @@ impl<R: Files<File = File> + Places + AllocGlobal> Import<'_, R> {
     fn bring<O: Write, E: Write + IsTerminal>(&self, out: &mut O, err: &mut E) -> Result<u8, u8>
         ensures ok { IfOk result (λ status. status ≤ 1) }
         ensures printed { IfOk result (λ status. status ≡ 0
-            → HasPrinted R.Device.Disk R.held R.closed self.now.device.now O.contents out.old out.new) }
+            → HasPrinted
+            record { model = R.Device.Disk; had = R.held; closed = R.closed; stands = R.stands } self.now.device.now
+            record { contents = O.contents; before = out.old; after = out.new }) }
         ensures err { IfErr result IsRefusal }
         ensures untouched { IfErr result (λ status. status ≡ 2 → out.new ≡ out.old) }
     {
@@ -222,7 +226,9 @@ impl<R: Files<File = File> + Places + AllocGlobal> Import<'_, R> {
         requires { is_down store ≡ false }
         ensures ok { IfOk result (λ status. status ≤ 1) }
         ensures printed { IfOk result (λ status. status ≡ 0
-            → GivesBackTotals R.Device.Disk R.closed O.contents out.old out.new) }
+            → GivesBackTotals
+            record { model = R.Device.Disk; had = R.held; closed = R.closed; stands = R.stands }
+            record { contents = O.contents; before = out.old; after = out.new }) }
         ensures err { IfErr result IsRefusal }
         ensures untouched { IfErr result (λ status. status ≡ 2 → out.new ≡ out.old) }
     {
@@ -249,7 +255,9 @@ impl<R: Files<File = File> + Places + AllocGlobal> Import<'_, R> {
     ) -> Result<u8, u8>
         ensures ok { IfOk result (λ status. status ≤ 1) }
         ensures printed { IfOk result (λ status. status ≡ 0
-            → HasPrinted R.Device.Disk R.held R.closed self.now.device.now O.contents out.old out.new) }
+            → HasPrinted
+            record { model = R.Device.Disk; had = R.held; closed = R.closed; stands = R.stands } self.now.device.now
+            record { contents = O.contents; before = out.old; after = out.new }) }
         ensures err { IfErr result IsRefusal }
         ensures untouched { IfErr result (λ status. status ≡ 2 → out.new ≡ out.old) }
     {

@@ -79,8 +79,8 @@ where
     E: Write + IsTerminal,
     requires up { is_down store.old ≡ false }
     requires old { N.at names.old ≡ Old }
-    ensures taken { IsTaken (state_of store.old) wanted.entry.edges.now wanted.entry.whole (state_of store.new) (N.at names.new)
-        O.contents out.old out.new result }
+    ensures taken { IsTaken wanted.entry (state_of store.old) (state_of store.new) (N.at names.new)
+        record { contents = O.contents; before = out.old; after = out.new } result }
 
     // What the import promises beside, also of a crash at any moment of it.
     ensures worn { StopsAtLimit store.old wanted.entry.edges.now store.new (edges_result result.edges) }

@@ -1,4 +1,5 @@
 pub mod Words
 pub mod Grammar
+pub mod Places
 pub mod Devices
 pub mod States

@@ -8,6 +8,8 @@
 //! A command has its device and files at a place ([`Sources`]; [`Places`] where it changes one). What a file holds no contract says, so that a
 //! device was opened by a path, or a text read there, is a fact that the place's calls alone give. By it a command's contract says of what
 //! its text was made (`OfDevice` and `OfFile` of `specs/Devices`). What the words ask for is what [`given`] and its like read (`specs/Words`).
+//! What a contract says of a place, of a device and of an output before a call and after it, it says of records with these as fields
+//! (`Place`, `DeviceStep` and `OutputStep` of `specs/Places`).
 //!
 //! The contract that the commands use: [`command`] gives clap the command of this name with just the words that are listed (`app_with` of
 //! `specs/Grammar`), so each `grammar` says which words its command has; [`print`] appends exactly the text, or the output failed; and each

@@ -53,7 +53,9 @@ where
     E: Write + IsTerminal,
     ensures few { result ≤ 2 }
     // 0 only where what is asked for of the file was printed, and 2 only where nothing was.
-    ensures printed { result ≡ 0 → DoesRehearse ⟦<MemDisk as Disk>⟧ ⟦<Watched as Disk>⟧ R.stands (rows_in found.now) O.contents out.old out.new }
+    ensures printed { result ≡ 0 → DoesRehearse
+        record { memory = ⟦<MemDisk as Disk>⟧; watched = ⟦<Watched as Disk>⟧ } R.stands (rows_in found.now)
+        record { contents = O.contents; before = out.old; after = out.new } }
     ensures untouched { result ≡ 2 → out.new ≡ out.old }
 {
     let Some(file) = given(found, "file") else {

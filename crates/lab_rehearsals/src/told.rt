@@ -72,8 +72,9 @@ pub fn rehearse_text<O: Write, E: Write + IsTerminal>(
     out: &mut O,
     err: &mut E,
 ) -> Result<(), NotRehearsed>
-    ensures printed { OnOk result
-        (PrintsTold ⟦<MemDisk as Disk>⟧ ⟦<Watched as Disk>⟧ text.now asked O.contents out.old out.new) }
+    ensures printed { OnOk result (PrintsTold
+        record { memory = ⟦<MemDisk as Disk>⟧; watched = ⟦<Watched as Disk>⟧ } text.now asked
+        record { contents = O.contents; before = out.old; after = out.new }) }
 
     // Which line isn't understood. Only where the output failed may a part be printed.
     ensures refused { IfErr result (λ refused. IsWhyNot text.now refused) }
@@ -96,8 +97,8 @@ fn told_of_lines<E: Write + IsTerminal>(
     err: &mut E,
 ) -> Result<String, NotRehearsed>
     requires { IsRehearsal lines.items }
-    ensures told { IfOk result (λ told.
-        IsToldOfLines ⟦<MemDisk as Disk>⟧ ⟦<Watched as Disk>⟧ lines.items asked (string_bytes told)) }
+    ensures told { IfOk result (λ told. IsToldOfLines
+        record { memory = ⟦<MemDisk as Disk>⟧; watched = ⟦<Watched as Disk>⟧ } lines.items asked (string_bytes told)) }
     ensures refused { IfErr result (λ refused. IsNotRun refused) }
 {
     match lives_of(alloc, lines)? {
@@ -113,7 +114,8 @@ fn told_of<E: Write + IsTerminal>(
     asked: Asked,
     err: &mut E,
 ) -> Result<String, RehearseRefused>
-    ensures { IfOk result (λ told. IsToldOf ⟦<MemDisk as Disk>⟧ ⟦<Watched as Disk>⟧ rehearsal asked (string_bytes told)) }
+    ensures { IfOk result (λ told. IsToldOf
+        record { memory = ⟦<MemDisk as Disk>⟧; watched = ⟦<Watched as Disk>⟧ } rehearsal asked (string_bytes told)) }
 {
     match asked {
         Asked::Report => rehearse(alloc, &rehearsal),

@@ -5,7 +5,8 @@ use Rattle.lab_landmarks.proofs.command.run.Goals as goal
 
 pub returns-in-Ok-loaded-clause-printed : goal.returns-in-Ok-loaded-clause-printed
 returns-in-Ok-loaded-clause-printed g c = λ zero.
-    let told = kept_answered c.in-Ok-loaded.loaded.graph c.in-Ok-loaded.loaded.count c.in-Ok-Ok.wanted g.O.Write.contents c.args.out.now c.print_choice-chosen.new.out
+    let told = kept_answered c.in-Ok-loaded.loaded.graph c.in-Ok-loaded.loaded.count c.in-Ok-Ok.wanted
+    (record { contents = g.O.Write.contents; before = c.args.out.now; after = c.print_choice-chosen.new.out })
     c.print_choice-chosen.result c.print_choice-chosen.ensures (c.status.ensures.kept.0 zero) in
     record {
       path = c.in-Some.path.now;

@@ -10,7 +10,7 @@ returns-in-Ok-ended-clause-printed g c = record {
   called = c.in-Ok-called.called;
   has = record {
     holds = search rules;
-    beside = called_beside g.R.Sources.stands c.args.asked.path.now c.in-Ok.loaded.graph.nodes c.in-Ok-names_beside.beside c.in-Ok-called.called
+    beside = called_beside g.R.Sources.stands c.args.path.now c.in-Ok.loaded.graph.nodes c.in-Ok-names_beside.beside c.in-Ok-called.called
         c.in-Ok-names_beside.ensures.read (rw c.nodes.ensures.nodes at c.in-Ok-called.ensures.called);
   };
   edited = search rules;

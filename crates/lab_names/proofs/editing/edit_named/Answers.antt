@@ -4,7 +4,7 @@ use Rattle.lab_names.proofs.editing.edit_named.Goals as goal
 
 pub returns-in-Err-print_verdict-clause-refused : goal.returns-in-Err-print_verdict-clause-refused
 returns-in-Err-print_verdict-clause-refused g c =
-    inr (untold c.args.called.now c.args.texts.now c.args.session c.args.ticket (g.D.Disk.view c.args.disk) (g.D.Disk.view c.edit-answer.result.1) c.in-Ok.change c.edit-answer.result.0 c.in-Err-print_verdict.fault
+    inr (untold c.args.called.now c.args.edit (record { model = g.D.Disk; before = c.args.disk; after = c.edit-answer.result.1 }) c.in-Ok.change c.edit-answer.result.0 c.in-Err-print_verdict.fault
     c.in-Ok.ensures.found c.edit-answer.ensures c.in-Err-print_verdict.ensures.fault)
 
 pub returns-in-Err-clause-refused : goal.returns-in-Err-clause-refused
