@@ -26,7 +26,7 @@ use Rattle.live_lines.specs.Answers.{answer_text}
 use Rattle.line_exchange.specs.Prints.{HasPrinted, lines_of}
 use Rattle.line_exchange.specs.declared.answer_writer.AnswerWriter.{Ghosts as Writers}
 use Rattle.live_service.specs.Runs.{HasBroken, PrintsTo}
-use Rattle.live_service.specs.Services.{AnswersInput}
+use Rattle.live_service.specs.Services.{AnswersInput, lent}
 use Rattle.table_files.specs.Files.{Put}
 use Rattle.file_commands.specs.declared.devices.Access.TheVariants.{ToChange}
 use Rattle.commands.specs.declared.outcome.Outcome.{Outcome}
@@ -139,7 +139,7 @@ no_fault fault same = cc
 -- the end of one that ran
 live_end : {D W : Type 0} (model : Ghosts D) (done : Doing D) (path : List ℕ) (given : Known) (editors : ℕ) (words : LandmarkWords) (outlet : Writers W) (out printed : W) (told_old told_new : Known) (disk : D) (back : Option D) (ended : Served) (outcome : Outcome)
     → IsEndOf ended outcome → done (Opened path ToChange disk ∷ closing back) → PrintsTo outlet (Bytes given) editors out printed ended → HasToldSo told_old told_new ended → IfSome (fault_of ended) (λ fault. IsServeEnd model disk words back fault) → IsLeftBy model disk back
-    → (ended ≡ served.Printed → AnswersInput model disk back (Bytes given) editors outlet.contents out printed)
+    → (ended ≡ served.Printed → AnswersInput (lent model disk back) (Bytes given) editors (outlet.contents out) (outlet.contents printed))
     → IsLiveOutcome model done path given editors words (outlet.contents out) (outlet.contents printed) told_old told_new outcome
 live_end model done path given editors words outlet out printed told_old told_new disk back served.Printed outcome is did prints tells ends left list =
     let old = outlet.contents out in
@@ -157,11 +157,11 @@ live_end model done path given editors words outlet out printed told_old told_ne
 
 pub live_so : {D W : Type 0} (model : Ghosts D) (done : Doing D) (path : List ℕ) (given read : Known) (editors : ℕ) (words : LandmarkWords) (outlet : Writers W) (out printed : W) (told_old told_new : Known) (disk : D) (back : Option D) (ended : Served) (outcome : Outcome)
     → read ≡ given → IsEndOf ended outcome → done (Opened path ToChange disk ∷ closing back) → PrintsTo outlet (Bytes read) editors out printed ended → HasToldSo told_old told_new ended → IfSome (fault_of ended) (λ fault. IsServeEnd model disk words back fault) → IsLeftBy model disk back
-    → (ended ≡ served.Printed → AnswersInput model disk back (Bytes read) editors outlet.contents out printed)
+    → (ended ≡ served.Printed → AnswersInput (lent model disk back) (Bytes read) editors (outlet.contents out) (outlet.contents printed))
     → IsLiveOutcome model done path given editors words (outlet.contents out) (outlet.contents printed) told_old told_new outcome
 live_so model done path given read editors words outlet out printed told_old told_new disk back ended outcome same is did prints tells ends left list =
     live_end model done path given editors words outlet out printed told_old told_new disk back ended outcome is did (subst (λ (g : Known). PrintsTo outlet (Bytes g) editors out printed ended) same prints) tells ends left
-    (subst (λ (g : Known). ended ≡ served.Printed → AnswersInput model disk back (Bytes g) editors outlet.contents out printed) same list)
+    (subst (λ (g : Known). ended ≡ served.Printed → AnswersInput (lent model disk back) (Bytes g) editors (outlet.contents out) (outlet.contents printed)) same list)
 
 -- one that didn't begin
 pub live_early : {D : Type 0} (model : Ghosts D) (done : Doing D) (path : List ℕ) (given : Known) (editors : ℕ) (words : LandmarkWords) (old told_old told_new : Known) (fault : Fault) (outcome : Outcome)

@@ -20,16 +20,16 @@ use Rattle.line_exchange.specs.declared.served.Served.TheVariants as served
 use Rattle.service_actors.specs.declared.stop_cause.StopCause.{StopCause}
 use Rattle.service_actors.specs.declared.stop_cause.StopCause.TheVariants as cause
 use Rattle.generations.specs.Beginnings.{Opening}
-use Rattle.logbook.specs.Pages.{Book}
 use Rattle.live_service.specs.declared.ending.Ending.{Ending}
 use Rattle.line_exchange.specs.Inputs.{Input}
+use Rattle.line_exchange.specs.declared.messages.Stream.{Ghosts as Streams}
 use Rattle.line_exchange.specs.Ends.{IsFinish, fault_of}
 use Rattle.line_exchange.specs.Reads.{AreOfInput, IsReadEnd}
 use Rattle.line_exchange.specs.declared.line_fault.LineFault.{LineFault}
 use Rattle.line_exchange.specs.declared.line_fault.LineFault.TheVariants.{Failed}
 use Rattle.live_lines.specs.Answers.{answer_text}
 use Rattle.line_exchange.specs.Prints.{PrintsSo, lines_of}
-use Rattle.live_service.specs.Runs.{HasBroken, HasEnded, HasRun, IsFaultOf, IsPrintEnd, IsRun, PrintsTo}
+use Rattle.live_service.specs.Runs.{ConsoleUse, HasBroken, HasEnded, HasRun, IsFaultOf, IsPrintEnd, IsRun, PrintsTo}
 use Rattle.live_service.specs.ServedList.{EndsServed, HasPrintedOn, HasServedOn}
 use Rattle.line_exchange.specs.declared.printed.Printed.{Printed}
 use Rattle.line_exchange.proofs.PrintedLines.{begins_all, none_printed}
@@ -41,9 +41,9 @@ cause_of : {T : Type 0} (a b : StopCause) → IsErrOf {T = T} (Err a) b → a �
 cause_of a b is = cc
 
 -- it stopped, and not since the device failed
-pub stopped_early : {D : Type 0} {V : _} → (opening : Opening) (book : Book) (store : Store D V) (input : Input) (editors : ℕ) (c : StopCause) (new : DiskView) → c ≢ cause.Device → HasSettledSome (state_of store) (view_of store) new
-    → EndsServed opening book store input editors (Err c) new
-stopped_early opening book store input editors c new other settled =
+pub stopped_early : {D J : Type 0} {V : _} → (opening : Opening) (stream : Streams J) (store : Store D V) (c : StopCause) (new : DiskView) → c ≢ cause.Device → HasSettledSome (state_of store) (view_of store) new
+    → EndsServed opening stream store (Err c) new
+stopped_early opening stream store c new other settled =
     record { disk = record { settled = settled; device = λ is. absurd (other (cause_of c cause.Device is)) }; named = tt; all = tt }
 
 not_memory : cause.Memory ≢ cause.Device
@@ -53,15 +53,15 @@ not_thread : cause.NoThread ≢ cause.Device
 not_thread is = cc
 
 -- .. and want of memory is no such failure
-pub memory_early : {D : Type 0} {V : _} → (opening : Opening) (book : Book) (store back : Store D V) (input : Input) (editors : ℕ) → is_down store ≡ false → back ≡ store → EndsServed opening book store input editors (Err cause.Memory) (view_of back)
-memory_early opening book store back input editors up same =
-    stopped_early opening book store input editors cause.Memory (view_of back) not_memory
+pub memory_early : {D J : Type 0} {V : _} → (opening : Opening) (stream : Streams J) (store back : Store D V) → is_down store ≡ false → back ≡ store → EndsServed opening stream store (Err cause.Memory) (view_of back)
+memory_early opening stream store back up same =
+    stopped_early opening stream store cause.Memory (view_of back) not_memory
     (subst (λ s. HasSettledSome (state_of store) (view_of store) (view_of s)) (sym same) (some_settled store up))
 
 -- .. nor is want of a thread
-pub thread_early : {D : Type 0} {V : _} → (opening : Opening) (book : Book) (store : Store D V) (new : DiskView) (input : Input) (editors : ℕ) → is_down store ≡ false → new ≡ view_of store → EndsServed opening book store input editors (Err cause.NoThread) new
-thread_early opening book store new input editors up same =
-    stopped_early opening book store input editors cause.NoThread new not_thread
+pub thread_early : {D J : Type 0} {V : _} → (opening : Opening) (stream : Streams J) (store : Store D V) (new : DiskView) → is_down store ≡ false → new ≡ view_of store → EndsServed opening stream store (Err cause.NoThread) new
+thread_early opening stream store new up same =
+    stopped_early opening stream store cause.NoThread new not_thread
     (subst (λ (v : DiskView). HasSettledSome (state_of store) (view_of store) v) (sym same) (some_settled store up))
 
 -- ---- faults
@@ -171,12 +171,12 @@ prints_to outlet input editors old new printed given ended so end =
     }
 
 -- .. and by what is known of the list, where no fault ended it
-pub prints_on : {D W : Type 0} {V : _} → (outlet : Ghosts W) (store : Store D V) (input : Input) (editors : ℕ) (old new : W) (printed : Printed) (given : Option Fault) (ended : Served) (back : Option D)
-    → PrintsSo outlet input editors old new printed → IsPrintEnd input printed given ended
-    → (ended ≡ served.Printed → HasServedOn store input editors printed.tally back) → ended ≡ served.Printed → HasPrintedOn answer_text store input editors (outlet.contents old) (outlet.contents new) back
-prints_on outlet store input editors old new printed given ended back so end on is = record {
+pub prints_on : {D J W : Type 0} {V : _} → (outlet : Ghosts W) (stream : Streams J) (store : Store D V) (old new : W) (printed : Printed) (given : Option Fault) (ended : Served) (back : Option D)
+    → PrintsSo outlet stream.input stream.editors old new printed → IsPrintEnd stream.input printed given ended
+    → (ended ≡ served.Printed → HasServedOn store stream.input stream.editors printed.tally back) → ended ≡ served.Printed → HasPrintedOn answer_text stream store (outlet.contents old) (outlet.contents new) back
+prints_on outlet stream store old new printed given ended back so end on is = record {
   tally = printed.tally;
-  printed = printed_as answer_text printed.tally input editors (PrintsUnless (printed.end ≡ Some Failed) (outlet.contents old) (outlet.contents new)) (Appends (outlet.contents old) (outlet.contents new)) so.lines
+  printed = printed_as answer_text printed.tally stream.input stream.editors (PrintsUnless (printed.end ≡ Some Failed) (outlet.contents old) (outlet.contents new)) (Appends (outlet.contents old) (outlet.contents new)) so.lines
       (λ lines was. was.1 (λ failed. not_printed ended told.Output (end.output failed) is));
   whole = end.whole (none_given given ended end.finish is);
   on = on is;
@@ -197,28 +197,30 @@ none_to outlet input editors old new ended f same fault =
     }
 
 -- of both, on a console of whose values this word reads the writer
-pub run_prints : {C D W : Type 0} {V : _} {prints : C → C → Printed → Type 0} {finishes : C → C → Option Fault → Served → Type 0} {input : Input} {many : ℕ} {store : Store D V} {old new : C} {ended : Served} {back : Option D}
-    → HasRun prints finishes input many store old new ended back → (outlet : Ghosts W) (editors : ℕ) (out : C → W)
-    → ((mid : C) (printed : Printed) (given : Option Fault) → prints old mid printed → finishes mid new given ended → PrintsSo outlet input editors (out old) (out new) printed)
-    → ((given : Option Fault) → finishes old new given ended → out new ≡ out old) → PrintsTo outlet input editors (out old) (out new) ended
-run_prints {input = input} {old = old} {new = new} {ended = ended} run outlet editors out so same =
-    ⊎_elim (λ ran. prints_to outlet input editors (out old) (out new) ran.printed ran.given ended (so ran.mid ran.printed ran.given ran.printing ran.finishing) ran.print_end)
-    (λ none. ⊎_elim (λ lacks. none_to outlet input editors (out old) (out new) ended told.Memory (same none.given none.finishing) lacks) (λ lacks. none_to outlet input editors (out old) (out new) ended told.NoThread (same none.given none.finishing) lacks) none.lacks)
+pub run_prints : {C D J W : Type 0} {V : _} {on : ConsoleUse C} {stream : Streams J} {store : Store D V} {ended : Served} {back : Option D}
+    → HasRun on stream store ended back → (outlet : Ghosts W) (out : C → W)
+    → ((mid : C) (printed : Printed) (given : Option Fault) → on.prints on.old mid printed → on.finishes mid on.new given ended → PrintsSo outlet stream.input stream.editors (out on.old) (out on.new) printed)
+    → ((given : Option Fault) → on.finishes on.old on.new given ended → out on.new ≡ out on.old) → PrintsTo outlet stream.input stream.editors (out on.old) (out on.new) ended
+run_prints {on = on} {stream = stream} {ended = ended} run outlet out so same =
+    let old = out on.old in
+    let new = out on.new in
+    ⊎_elim (λ ran. prints_to outlet stream.input stream.editors old new ran.printed ran.given ended (so ran.mid ran.printed ran.given ran.printing ran.finishing) ran.print_end)
+    (λ none. ⊎_elim (λ lacks. none_to outlet stream.input stream.editors old new ended told.Memory (same none.given none.finishing) lacks) (λ lacks. none_to outlet stream.input stream.editors old new ended told.NoThread (same none.given none.finishing) lacks) none.lacks)
     run.console
 
 -- the threads of a service ran, unless it lacked memory or a thread
-pub ran_unless : {C D : Type 0} {V : _} {prints : C → C → Printed → Type 0} {finishes : C → C → Option Fault → Served → Type 0} {input : Input} {many : ℕ} {store : Store D V} {old new : C} {ended : Served} {back : Option D}
-    → HasRun prints finishes input many store old new ended back → (fault_of ended ≡ Some told.Memory → ⊥) → (fault_of ended ≡ Some told.NoThread → ⊥) → IsRun prints finishes input many store old new ended back
+pub ran_unless : {C D J : Type 0} {V : _} {on : ConsoleUse C} {stream : Streams J} {store : Store D V} {ended : Served} {back : Option D}
+    → HasRun on stream store ended back → (fault_of ended ≡ Some told.Memory → ⊥) → (fault_of ended ≡ Some told.NoThread → ⊥) → IsRun on stream store ended back
 ran_unless run memory thread = ⊎_elim (λ ran. ran) (λ none. absurd (⊎_elim (λ lacks. memory lacks) (λ lacks. thread lacks) none.lacks)) run.console
 
 -- so they did where no fault ended it
-pub ran_of : {C D : Type 0} {V : _} {prints : C → C → Printed → Type 0} {finishes : C → C → Option Fault → Served → Type 0} {input : Input} {many : ℕ} {store : Store D V} {old new : C} {ended : Served} {back : Option D}
-    → HasRun prints finishes input many store old new ended back → ended ≡ served.Printed → IsRun prints finishes input many store old new ended back
+pub ran_of : {C D J : Type 0} {V : _} {on : ConsoleUse C} {stream : Streams J} {store : Store D V} {ended : Served} {back : Option D}
+    → HasRun on stream store ended back → ended ≡ served.Printed → IsRun on stream store ended back
 ran_of {ended = ended} run is = ran_unless run (λ lacks. not_printed ended told.Memory lacks is) (λ lacks. not_printed ended told.NoThread lacks is)
 
 -- .. or its output failed
-pub ran_broken : {C D : Type 0} {V : _} {prints : C → C → Printed → Type 0} {finishes : C → C → Option Fault → Served → Type 0} {input : Input} {many : ℕ} {store : Store D V} {old new : C} {ended : Served} {back : Option D}
-    → HasRun prints finishes input many store old new ended back → fault_of ended ≡ Some told.Output → IsRun prints finishes input many store old new ended back
+pub ran_broken : {C D J : Type 0} {V : _} {on : ConsoleUse C} {stream : Streams J} {store : Store D V} {ended : Served} {back : Option D}
+    → HasRun on stream store ended back → fault_of ended ≡ Some told.Output → IsRun on stream store ended back
 ran_broken run is = ran_unless run (λ lacks. two_faults (sym is ∙ lacks)) (λ lacks. two_thread_faults (sym is ∙ lacks))
   where
     two_faults : Some told.Output ≡ Some told.Memory → ⊥

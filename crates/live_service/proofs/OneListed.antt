@@ -36,6 +36,7 @@ use Rattle.committer_thread.specs.Pace.{IsUpToDate}
 use Rattle.committer_thread.specs.Kept.{HasSettled, IsLeftBy, IsOnCourse, IsServedDisk, StandsForBeginning}
 use Rattle.committer_thread.proofs.Settling.{on_course_posted, read_leaves, served_leaves, served_same}
 use Rattle.live_lines.specs.declared.answer.Answer.{Answer}
+use Rattle.line_exchange.specs.declared.messages.Stream.{Ghosts as Streams}
 use Rattle.line_exchange.specs.Inputs.{Input}
 use Rattle.line_exchange.specs.OneList.{AreAnswersIn, AreGone, AreSaid}
 use Rattle.line_exchange.specs.Prints.{AreAllLines, HasPrintedBy}
@@ -70,13 +71,13 @@ newest_of first now on shown =
     subst (λ (s : State). IsNewest (record { opening = (posts_of now).opening; log = (posts_of now).posted }) s.count) on.state shown.newest
 
 -- what a committer posted that nothing stopped, what was noted, and the store that it gives back
-pub served_all : {D R : Type 0} {V : _} → (first now : Committer D R V) (store : Store D V) (input : Input) (editors : ℕ) (own : Result Bool StopCause) (result : Result Ending StopCause) (opening : Opening) (book : Book) (ending : Ending)
-    → IsServedDisk (store_of first) result (view_of store) → IsListedFrom (builds_of input) (state_of (store_of first)) first → OnOk own (IsOnCourse (builds_of input) first now) → OnOk own ((posts_of now).opening ≡ opening) → IfOk own (λ left. IsTrue left → IsUpToDate now)
-    → ending.board ≡ record { opening = (posts_of now).opening; log = (posts_of now).posted } → ending.lines.book ≡ book → OnOk result (own ≡ Ok true) → IfOk result (λ e. e ≡ ending)
-    → OnOk result ((session : ℕ) → AreAllNoted input editors ending.puts ending.lines.lines session (of session (got_of now))) → store ≡ store_of now → EndsServed opening book (store_of first) input editors result (view_of store)
-served_all first now store input editors own (Err e) opening book ending disk listed on named shown is noted ok same put left = record { disk = disk; named = tt; all = tt }
-served_all first now store input editors (Err e) (Ok b) opening book ending disk listed on named shown is noted ok same put left = absurd (no_ok e true ok)
-served_all first now store input editors (Ok u) (Ok b) opening book ending disk listed on named shown is noted ok same put left =
+pub served_all : {D R J : Type 0} {V : _} → (first now : Committer D R V) (store : Store D V) (stream : Streams J) (own : Result Bool StopCause) (result : Result Ending StopCause) (opening : Opening) (ending : Ending)
+    → IsServedDisk (store_of first) result (view_of store) → IsListedFrom (builds_of stream.input) (state_of (store_of first)) first → OnOk own (IsOnCourse (builds_of stream.input) first now) → OnOk own ((posts_of now).opening ≡ opening) → IfOk own (λ left. IsTrue left → IsUpToDate now)
+    → ending.board ≡ record { opening = (posts_of now).opening; log = (posts_of now).posted } → ending.lines.book ≡ stream.book → OnOk result (own ≡ Ok true) → IfOk result (λ e. e ≡ ending)
+    → OnOk result ((session : ℕ) → AreAllNoted stream.input stream.editors ending.puts ending.lines.lines session (of session (got_of now))) → store ≡ store_of now → EndsServed opening stream (store_of first) result (view_of store)
+served_all first now store stream own (Err e) opening ending disk listed on named shown is noted ok same put left = record { disk = disk; named = tt; all = tt }
+served_all first now store stream (Err e) (Ok b) opening ending disk listed on named shown is noted ok same put left = absurd (no_ok e true ok)
+served_all first now store stream (Ok u) (Ok b) opening ending disk listed on named shown is noted ok same put left =
     let whole = on.listed (state_of (store_of first)) listed in
     let newest = newest_of first now on (shown (same_ok u true ok)) in
     let board : Beginning = record { opening = (posts_of now).opening; log = (posts_of now).posted } in
@@ -85,8 +86,8 @@ served_all first now store input editors (Ok u) (Ok b) opening book ending disk 
     record {
       disk = disk;
       named = (ap (λ (c : Ending). c.board.opening) here ∙ named, ap (λ (c : Ending). c.lines.book) here ∙ noted);
-      all = subst (λ (c : Ending). HasServedAll (store_of first) input editors c (view_of store)) (sym here)
-          (subst (λ s. HasServedAll (store_of first) input editors posted (view_of s)) (sym left)
+      all = subst (λ (c : Ending). HasServedAll (store_of first) stream.input stream.editors c (view_of store)) (sym here)
+          (subst (λ s. HasServedAll (store_of first) stream.input stream.editors posted (view_of s)) (sym left)
           (record {
             taken = got_of now;
             begins = whole.begins;
@@ -110,10 +111,10 @@ same_board (Ok e) tally opening book same noted is = (same ∙ sym is.0, noted �
 same_board (Err e) tally opening book same noted is = tt
 
 -- the board of an engine that nothing stopped has all that was known, and as many verdicts were told as lines were noted
-pub served_on : {D : Type 0} {V : _} → (opening : Opening) (book : Book) (store : Store D V) (input : Input) (editors : ℕ) (engine : Result Ending StopCause) (tally : Tally) (back : D)
-    → IsOkAnd engine (λ e. GoesOn tally.known e.board × AreSamePuts tally e) → EndsServed opening book store input editors engine (V.view back) → HasServedOn store input editors tally (Some back)
-served_on opening book store input editors (Ok ending) tally back on ends = record { ending = ending; on = on.0; told = on.1; all = ends.all }
-served_on opening book store input editors (Err e) tally back on ends = absurd on
+pub served_on : {D J : Type 0} {V : _} → (opening : Opening) (stream : Streams J) (store : Store D V) (engine : Result Ending StopCause) (tally : Tally) (back : D)
+    → IsOkAnd engine (λ e. GoesOn tally.known e.board × AreSamePuts tally e) → EndsServed opening stream store engine (V.view back) → HasServedOn store stream.input stream.editors tally (Some back)
+served_on opening stream store (Ok ending) tally back on ends = record { ending = ending; on = on.0; told = on.1; all = ends.all }
+served_on opening stream store (Err e) tally back on ends = absurd on
 
 -- ---- which lines put requests
 
@@ -233,15 +234,15 @@ of_one_list {V = V} text disk back store tally ending input editors old new open
     }
 
 -- the answers of an input or a script are of one list
-pub answered : {D : Type 0} {V : _} → (text : Answer → List ℕ) (disk : D) (store : Store D V) (input : Input) (editors : ℕ) (old new : Option (List ℕ)) (back : Option D) → IsOpened (V.view disk) store
-    → HasPrintedOn text store input editors old new back → IsSomeAnd back (λ d. HasAnswered text V disk d input editors old new)
-answered {V = V} text disk store input editors old new back opened has = of back has.on.all
+pub answered : {D J : Type 0} {V : _} → (text : Answer → List ℕ) (disk : D) (stream : Streams J) (store : Store D V) (old new : Option (List ℕ)) (back : Option D) → IsOpened (V.view disk) store
+    → HasPrintedOn text stream store old new back → IsSomeAnd back (λ d. HasAnswered text V disk d stream.input stream.editors old new)
+answered {V = V} text disk stream store old new back opened has = of back has.on.all
   where
-    of : (b : Option _) → IsSomeAnd b (λ d. HasServedAll store input editors has.on.ending (V.view d)) → IsSomeAnd b (λ d. HasAnswered text V disk d input editors old new)
+    of : (b : Option _) → IsSomeAnd b (λ d. HasServedAll store stream.input stream.editors has.on.ending (V.view d)) → IsSomeAnd b (λ d. HasAnswered text V disk d stream.input stream.editors old new)
     of None all = absurd all
     of (Some d) all = record {
       answers = has.printed.answers;
-      all = subst (λ (n : ℕ). AreAllLines input n) (sym has.printed.many) has.whole;
+      all = subst (λ (n : ℕ). AreAllLines stream.input n) (sym has.printed.many) has.whole;
       printed = has.printed.printed;
-      one_list = of_one_list text disk d store has.tally has.on.ending input editors old new opened all has.on.on has.on.told has.printed;
+      one_list = of_one_list text disk d store has.tally has.on.ending stream.input stream.editors old new opened all has.on.on has.on.told has.printed;
     }

@@ -18,6 +18,7 @@ use Rattle.service_actors.specs.declared.stop_cause.StopCause.TheVariants as cau
 use Rattle.line_exchange.specs.declared.printed.Printed.{Printed}
 use Rattle.line_exchange.specs.declared.line_fault.LineFault.TheVariants.{Failed}
 use Rattle.line_exchange.specs.Inputs.{Input}
+use Rattle.line_exchange.specs.declared.messages.Stream.{Ghosts as Streams}
 use Rattle.line_exchange.specs.Ends.{IsFinish, fault_of}
 use Rattle.live_service.specs.ServeEnds.{IsLater}
 use Rattle.line_exchange.specs.Prints.{AreAllLines, HasPrinted}
@@ -57,32 +58,53 @@ pub record PrintsTo {W : Type 0} (outlet : Ghosts W) (input : Input) (editors : 
   pub answers : (count : ℕ) × HasPrinted input editors (PrintsUnless (HasBroken outlet new ended) (outlet.contents old) (outlet.contents new)) count
       × (ended ≡ served.Printed → AreAllLines input count)
 
--- The threads of a service ran: it printed on a console and told its end there, between two values of that, and ended as its printing did.
-pub record IsRun {C D : Type 0} {V : _} (prints : C → C → Printed → Type 0) (finishes : C → C → Option Fault → Served → Type 0) (input : Input) (editors : ℕ) (store : Store D V) (old new : C) (ended : Served) (back : Option D) : Type 0 where
+-- A console, before and after: what it prints between two values of it, and how it is told an end.
+pub record ConsoleUse (C : Type 0) : Type 1 where
+  pub prints : C → C → Printed → Type 0
+  pub finishes : C → C → Option Fault → Served → Type 0
+  pub old : C
+  pub new : C
+
+-- one that does both so
+abbrev pub console_use : {C : Type 0} → (C → C → Printed → Type 0) → (C → C → Option Fault → Served → Type 0) → C → C → ConsoleUse C
+console_use prints finishes old new = record { prints = prints; finishes = finishes; old = old; new = new }
+
+-- The threads of a service ran: it printed on a console and told its end there, and ended as its printing did.
+pub record IsRun {C D J : Type 0} {V : _} (console : ConsoleUse C) (stream : Streams J) (store : Store D V) (ended : Served) (back : Option D) : Type 0 where
   pub mid : C
   pub printed : Printed
   pub given : Option Fault
-  pub printing : prints old mid printed
-  pub finishing : finishes mid new given ended
-  pub print_end : IsPrintEnd input printed given ended
-  pub one_list : ended ≡ served.Printed → HasServedOn store input editors printed.tally back
+  pub printing : console.prints console.old mid printed
+  pub finishing : console.finishes mid console.new given ended
+  pub print_end : IsPrintEnd stream.input printed given ended
+  pub one_list : ended ≡ served.Printed → HasServedOn store stream.input stream.editors printed.tally back
 
 -- No thread was started, since memory ran out or none could be made: that was told.
-pub record IsUnstarted {C : Type 0} (finishes : C → C → Option Fault → Served → Type 0) (old new : C) (ended : Served) : Type 0 where
+pub record IsUnstarted {C : Type 0} (console : ConsoleUse C) (ended : Served) : Type 0 where
   pub given : Option Fault
-  pub finishing : finishes old new given ended
+  pub finishing : console.finishes console.old console.new given ended
   pub lacks : (fault_of ended ≡ Some told.Memory) ⊎ (fault_of ended ≡ Some told.NoThread)
 
--- a service on a store that was opened ended so, between two values of its console
-pub record HasRun {C D : Type 0} {V : _} (prints : C → C → Printed → Type 0) (finishes : C → C → Option Fault → Served → Type 0) (input : Input) (editors : ℕ) (store : Store D V) (old new : C) (ended : Served) (back : Option D) : Type 0 where
+-- a service on a store that was opened ended so, for the lines of a stream and on a console
+pub record HasRun {C D J : Type 0} {V : _} (on : ConsoleUse C) (stream : Streams J) (store : Store D V) (ended : Served) (back : Option D) : Type 0 where
   pub engine_end : HasEnded store ended back
-  pub console : IsRun prints finishes input editors store old new ended back ⊎ IsUnstarted finishes old new ended
+  pub console : IsRun on stream store ended back ⊎ IsUnstarted on ended
 
--- A service of a script ended so, between two values of its writer: without a fault it printed all answers, where the printing failed a
--- beginning of them, and any other fault left the writer as it was.
-pub record HasServedScript {W D : Type 0} {V : _} (outlet : Ghosts W) (script : List ScriptLine) (input : Input) (editors : ℕ) (store : Store D V) (old new : W) (ended : Served) (back : Option D) : Type 0 where
-  pub printed : ended ≡ served.Printed → IsServed script (Appends (outlet.contents old) (outlet.contents new))
-  pub broken : IfSome (fault_of ended) (λ fault. fault ≡ told.Output → BreaksOff outlet script old new)
-  pub untouched : IfSome (fault_of ended) (λ fault. fault ≢ told.Output → new ≡ old)
+-- A writer of answers, before and after: what is known of it.
+pub record WriterUse (W : Type 0) : Type 1 where
+  pub outlet : Ghosts W
+  pub old : W
+  pub new : W
+
+-- one of which this is known
+abbrev pub writer_use : {W : Type 0} → Ghosts W → W → W → WriterUse W
+writer_use outlet old new = record { outlet = outlet; old = old; new = new }
+
+-- A service of a script ended so, by its writer: without a fault it printed all answers, where the printing failed a beginning of them,
+-- and any other fault left the writer as it was.
+pub record HasServedScript {W D J : Type 0} {V : _} (out : WriterUse W) (script : List ScriptLine) (stream : Streams J) (store : Store D V) (ended : Served) (back : Option D) : Type 0 where
+  pub printed : ended ≡ served.Printed → IsServed script (Appends (out.outlet.contents out.old) (out.outlet.contents out.new))
+  pub broken : IfSome (fault_of ended) (λ fault. fault ≡ told.Output → BreaksOff out.outlet script out.old out.new)
+  pub untouched : IfSome (fault_of ended) (λ fault. fault ≢ told.Output → out.new ≡ out.old)
   pub engine_end : HasEnded store ended back
-  pub one_list : ended ≡ served.Printed → HasPrintedOn script_text store input editors (outlet.contents old) (outlet.contents new) back
+  pub one_list : ended ≡ served.Printed → HasPrintedOn script_text stream store (out.outlet.contents out.old) (out.outlet.contents out.new) back

@@ -3,7 +3,6 @@ use Rattle.std.specs.Prelude.{◌≡◌, ℕ, IfOk, IsSomeAnd, IsTrue, List, Opt
 use Rattle.std.specs.Io.KnownBytes.{Appends}
 use Rattle.disk_trait.specs.declared.disk.Disk.{Ghosts}
 use Rattle.disk_trait.specs.Disk.{DiskView, LeavesOnly}
-use Rattle.logbook.specs.Pages.{Book}
 use Rattle.put_lines.specs.Lines.{lines_of as session_lines}
 use Rattle.requests.specs.declared.request.Request.{Request}
 use Rattle.layout_2.specs.State.{State}
@@ -22,6 +21,7 @@ use Rattle.service_actors.specs.declared.stop_cause.StopCause.{StopCause}
 use Rattle.live_lines.specs.declared.answer.Answer.{Answer}
 use Rattle.intake.specs.Turns.{of}
 use Rattle.line_exchange.specs.Inputs.{Input, Bytes, Script}
+use Rattle.line_exchange.specs.declared.messages.Stream.{Ghosts as Streams}
 use Rattle.line_workers.specs.Submits.{ArePutBy}
 use Rattle.live_service.specs.Noting.{AreAllNoted, AreSamePuts}
 use Rattle.live_service.specs.declared.ending.Ending.{Ending}
@@ -66,14 +66,14 @@ pub record HasServedAll {D : Type 0} {V : _} (store : Store D V) (input : Input)
   pub stands : IsTrue new.keeps_model → KeepsThrough new (settle (state_of store) taken).state
   pub of_input : (session : ℕ) → AreAllNoted input editors ending.puts ending.lines.lines session (of session taken)
 
--- An engine over a store ended so, at a board of this name.
-pub record EndsServed {D : Type 0} {V : _} (opening : Opening) (book : Book) (store : Store D V) (input : Input) (editors : ℕ) (result : Result Ending StopCause) (new : DiskView) : Type 0 where
+-- An engine over a store ended so, at a board of this name, for the lines of a stream.
+pub record EndsServed {D J : Type 0} {V : _} (opening : Opening) (stream : Streams J) (store : Store D V) (result : Result Ending StopCause) (new : DiskView) : Type 0 where
   -- whatever ended it: requests were settled on the disk, which failed where that is the cause
   pub disk : IsServedDisk store result new
-  -- where nothing stopped it, its board is that of this name, and lines were noted in this book
-  pub named : IfOk result (λ ending. (ending.board.opening ≡ opening) × (ending.lines.book ≡ book))
+  -- where nothing stopped it, its board is that of this name, and lines were noted in the stream's book
+  pub named : IfOk result (λ ending. (ending.board.opening ≡ opening) × (ending.lines.book ≡ stream.book))
   -- .. and all that it took was settled
-  pub all : IfOk result (λ ending. HasServedAll store input editors ending new)
+  pub all : IfOk result (λ ending. HasServedAll store stream.input stream.editors ending new)
 
 -- The board has all that was known, as many verdicts were told as lines were noted, and the disk came back behind that.
 pub record HasServedOn {D : Type 0} {V : _} (store : Store D V) (input : Input) (editors : ℕ) (tally : Tally) (back : Option D) : Type 0 where
@@ -83,11 +83,11 @@ pub record HasServedOn {D : Type 0} {V : _} (store : Store D V) (input : Input) 
   pub all : IsSomeAnd back (λ d. HasServedAll store input editors ending (V.view d))
 
 -- Lines were answered over a store: all were printed by what was known, a line of this text for each answer, and the board has it.
-pub record HasPrintedOn {D : Type 0} {V : _} (text : Answer → List ℕ) (store : Store D V) (input : Input) (editors : ℕ) (old new : Option (List ℕ)) (back : Option D) : Type 0 where
+pub record HasPrintedOn {D J : Type 0} {V : _} (text : Answer → List ℕ) (stream : Streams J) (store : Store D V) (old new : Option (List ℕ)) (back : Option D) : Type 0 where
   pub tally : Tally
-  pub printed : HasPrintedBy text tally input editors (Appends old new)
-  pub whole : AreAllLines input tally.count
-  pub on : HasServedOn store input editors tally back
+  pub printed : HasPrintedBy text tally stream.input stream.editors (Appends old new)
+  pub whole : AreAllLines stream.input tally.count
+  pub on : HasServedOn store stream.input stream.editors tally back
 
 -- ---- a service that no fault ended
 

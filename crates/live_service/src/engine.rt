@@ -353,7 +353,7 @@ fn run_seats<'a, J: Stream + Send + Sync, B: BoardName + Send + Sync, A: Around,
     requires begun { IsBegun (builds_of J.input) committer }
     requires editors { AreAllEditors (taker_of committer) (map (λ e. e.editor) seats.editors.items) }
     requires builds { rebuilds.builds ≡ builds_of J.input }
-    ensures { EndsServed B.opening J.book (store_of committer) J.input J.editors result.0 (view_of result.1) }
+    ensures { EndsServed B.opening J.Stream (store_of committer) result.0 (view_of result.1) }
 {
     thread::scope(
         thread::scope_env(),
@@ -365,7 +365,7 @@ fn run_seats<'a, J: Stream + Send + Sync, B: BoardName + Send + Sync, A: Around,
             requires begun { IsBegun (builds_of J.input) committer }
             requires editors { AreAllEditors (taker_of committer) (map (λ e. e.editor) seats.editors.items) }
             requires builds { rebuilds.builds ≡ builds_of J.input }
-            ensures { EndsServed B.opening J.book (store_of committer) J.input J.editors result.0 (view_of result.1) }
+            ensures { EndsServed B.opening J.Stream (store_of committer) result.0 (view_of result.1) }
         {
             let mut committer = committer;
             let mut rebuilds = rebuilds;
@@ -438,7 +438,7 @@ fn run<J: Stream + Send + Sync, B: BoardName + Send + Sync, A: Around, Q: Wait +
     requires bare { IsShown None committer }
     requires editors { AreAllEditors (taker_of committer) (map (λ e. e.editor) seats.editors.items) }
     requires builds { rebuilds.builds ≡ builds_of J.input }
-    ensures { EndsServed B.opening J.book (store_of committer) J.input J.editors result.0 (view_of result.1) }
+    ensures { EndsServed B.opening J.Stream (store_of committer) result.0 (view_of result.1) }
 {
     let mut committer = committer;
     let mut rebuilds = rebuilds;
@@ -546,7 +546,7 @@ fn seat<J: Stream + Send + Sync, B: BoardName + Send + Sync, A: Around, Q: Wait 
     exchange: &LineQueues<J, B>,
 ) -> (Result<Ending, StopCause>, Store<A::Device>)
     requires builds { parts.opened.config.builds ≡ builds_of J.input }
-    ensures { EndsServed B.opening J.book parts.opened.store J.input J.editors result.0 (view_of result.1) }
+    ensures { EndsServed B.opening J.Stream parts.opened.store result.0 (view_of result.1) }
 {
     let EngineParts {
         opened,
@@ -582,7 +582,7 @@ pub fn engine<J: Stream + Send + Sync, B: BoardName + Send + Sync, A: Around, Q:
     exchange: &LineQueues<J, B>,
 ) -> (Result<Ending, StopCause>, A::Device)
     requires builds { parts.opened.config.builds ≡ builds_of J.input }
-    ensures { EndsServed B.opening J.book parts.opened.store J.input J.editors result.0 (A.Device.view result.1) }
+    ensures { EndsServed B.opening J.Stream parts.opened.store result.0 (A.Device.view result.1) }
 {
     let (result, store) = seat::<J, B, A, Q>(rt, alloc, parts, gate, exchange);
     exchange.shut(rt);

@@ -8,7 +8,7 @@ ghost use Rattle.live_service.specs.ServeEnds.{IsLater, told_fault};
 ghost use Rattle.line_exchange.specs.declared.served.Served.{Served};
 ghost use Rattle.line_exchange.specs.Ends.{fault_of};
 ghost use Rattle.line_exchange.specs.Reads.{IsReadEnd};
-ghost use Rattle.live_service.specs.Runs.{HasRun, IsFaultOf, IsPrintEnd};
+ghost use Rattle.live_service.specs.Runs.{HasRun, IsFaultOf, IsPrintEnd, console_use};
 ghost use Rattle.live_service.specs.Seated.{IsSeated};
 ghost use Rattle.live_service.specs.Noting.{AreSamePuts};
 ghost use Rattle.live_service.specs.ServedList.{EndsServed, IsBoardOf, builds_of};
@@ -45,7 +45,7 @@ impl<J: Stream, B: BoardName, D: Disk> Promise<(Result<Ending, StopCause>, D)>
     for EnginePromise<J, B, D> {
     ghost use Rattle.live_service.specs.ServedList.{EndsServed};
 
-    ghost kept_by = { λ p r. EndsServed B.opening J.book p.store.value J.input J.editors r.0 (D.view r.1) };
+    ghost kept_by = { λ p r. EndsServed B.opening J.Stream p.store.value r.0 (D.view r.1) };
 }
 
 // What the reader's thread answers of its input.
@@ -225,7 +225,7 @@ where
         requires builds { config.builds ≡ builds_of J.input }
         requires board { IsBoardOf B.opening (state_of store) writer readers.items }
         requires up { is_down store ≡ false }
-        ensures { EndsServed B.opening J.book store J.input J.editors result.0 (A.Device.view result.1) }
+        ensures { EndsServed B.opening J.Stream store result.0 (A.Device.view result.1) }
     {
         if unmade.load(Ordering::SeqCst) {
             return (Err(StopCause::NoThread), store.into_disk());
@@ -274,8 +274,7 @@ where
     <A::Devices as NewDevices>::Device: Send,
     requires given { K.Lines.has_given lines 0 }
     requires builds { parts.opened.config.builds ≡ builds_of J.input }
-    ensures { HasRun K.Console.prints K.Console.finishes J.input J.editors parts.opened.store
-        console result.0 result.1 result.2 }
+    ensures { HasRun (console_use K.Console.prints K.Console.finishes console result.0) J.Stream parts.opened.store result.1 result.2 }
 {
     let Env { rt, alloc } = env;
     let unmade = AtomicBool::new(false);
@@ -286,8 +285,8 @@ where
         |scope| -> (K::Console, Served, Option<A::Device>)
             requires given { K.Lines.has_given lines 0 }
             requires builds { parts.opened.config.builds ≡ builds_of J.input }
-            ensures { HasRun K.Console.prints K.Console.finishes J.input J.editors parts.opened.store
-                console result.0 result.1 result.2 }
+            ensures { HasRun (console_use K.Console.prints K.Console.finishes console result.0) J.Stream parts.opened.store
+                result.1 result.2 }
         {
             let engine = match start_engine::<_, J, B, A, Q>(
                 scope, rt, alloc, parts, gate, exchange, unmade,

@@ -10,7 +10,7 @@ ghost use Rattle.line_exchange.specs.Inputs.{Bytes};
 ghost use Rattle.live_service.specs.Runs.{HasEnded, PrintsTo};
 ghost use Rattle.live_lines.specs.Answers.{answer_text};
 ghost use Rattle.live_service.specs.ServedList.{HasPrintedOn};
-ghost use Rattle.live_service.specs.Services.{AnswersInput};
+ghost use Rattle.live_service.specs.Services.{AnswersInput, lent};
 
 use crate::around::Around;
 use crate::opened::{EngineConfig, Env, LiveInput, Opened, PlacesOf, ServedDevice, Surroundings};
@@ -49,7 +49,7 @@ where
     ensures told { TellsEnd E.contents E.has_failed err.old err.new result.0 }
     ensures ended { HasEnded opened.store result.0 result.1 }
     ensures one_list { result.0 ≡ Served.Printed
-        → HasPrintedOn answer_text opened.store J.input J.editors (O.contents out.old) (O.contents out.new) result.1 }
+        → HasPrintedOn answer_text J.Stream opened.store (O.contents out.old) (O.contents out.new) result.1 }
 {
     let (input, blank) = input;
     let alloc = env.alloc;
@@ -105,8 +105,8 @@ where
     ensures left { IsLeftBy A.Device.Disk device.disk result.1 }
     // Where no fault ended it, the device came back, and the answers are of one list of requests.
     ensures one_list { result.0 ≡ Served.Printed
-        → AnswersInput A.Device.Disk device.disk result.1 (Bytes (S.remaining input.lines)) device.config.editors
-        O.contents out.old out.new }
+        → AnswersInput (lent A.Device.Disk device.disk result.1) (Bytes (S.remaining input.lines)) device.config.editors
+        (O.contents out.old) (O.contents out.new) }
 {
     let ServedDevice {
         disk,

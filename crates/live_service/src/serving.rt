@@ -2,7 +2,7 @@
 ghost use Rattle.std.specs.Prelude.{◌≡◌, IfOk};
 ghost use Rattle.checkpoint.specs.StoreWords.{state_of};
 ghost use Rattle.committer_thread.specs.Config.{IsServiceConfig};
-ghost use Rattle.live_service.specs.Runs.{HasRun};
+ghost use Rattle.live_service.specs.Runs.{HasRun, console_use};
 ghost use Rattle.live_service.specs.Seated.{IsSeated};
 ghost use Rattle.live_service.specs.ServedList.{IsBoardOf, builds_of};
 
@@ -64,7 +64,7 @@ fn unstarted<J: Stream, D: Disk + Drop, P: Drop, C: Console<J>>(
     opened: Opened<D, P>,
     console: C,
 ) -> (C, Served, Option<D>)
-    ensures { HasRun C.prints C.finishes J.input J.editors opened.store console result.0 result.1 result.2 }
+    ensures { HasRun (console_use C.prints C.finishes console result.0) J.Stream opened.store result.1 result.2 }
 {
     let (console, served) = console.finish(Some(Fault::Memory));
     let Opened {
@@ -98,8 +98,7 @@ where
     requires blank { board.2.book ≡ J.book }
     requires given { K.Lines.has_given lines 0 }
     requires builds { opened.config.builds ≡ builds_of J.input }
-    ensures { HasRun K.Console.prints K.Console.finishes J.input J.editors opened.store
-        console result.0 result.1 result.2 }
+    ensures { HasRun (console_use K.Console.prints K.Console.finishes console result.0) J.Stream opened.store result.1 result.2 }
 {
     let alloc = env.alloc;
     let (writer, readers, blank) = board;
@@ -146,7 +145,7 @@ where
     requires given { L.has_given lines 0 }
     requires builds { opened.config.builds ≡ builds_of J.input }
     requires blank { blank.book ≡ J.book }
-    ensures { HasRun C.prints C.finishes J.input J.editors opened.store console result.0 result.1 result.2 }
+    ensures { HasRun (console_use C.prints C.finishes console result.0) J.Stream opened.store result.1 result.2 }
 {
     match board_of(env.rt, env.alloc, &opened.config, &opened.store) {
         Ok((writer, readers)) => serve_at_board::<J, Brand, A, &A::Runtime, Ends<L, C>>(

@@ -11,6 +11,7 @@ use Rattle.command_output.specs.declared.fault.Fault.{Fault}
 use Rattle.command_output.specs.declared.fault.Fault.TheVariants as told
 use Rattle.line_exchange.specs.Reads.{AreOfInput}
 use Rattle.line_exchange.specs.declared.answer_writer.AnswerWriter.{Ghosts}
+use Rattle.line_exchange.specs.declared.messages.Stream.{Ghosts as Streams}
 use Rattle.value_syntax.specs.declared.line.ScriptLine.{ScriptLine}
 use Rattle.value_syntax.specs.declared.line.ScriptLine.TheVariants.{Edit, Route}
 use Rattle.live_lines.specs.declared.asked.Asked.{Asked}
@@ -87,14 +88,14 @@ script_broken outlet input script editors printed given ended text old new names
     end.finish
 
 -- and its answers are by what is known
-pub script_gathered : {D W : Type 0} {V : _} → (outlet : Ghosts W) (store : Store D V) (input : Input) (editors : ℕ) (printed : Printed) (given : Option Fault) (ended : Served) (text : List ℕ) (old new : W) (back : Option D)
-    → (printed.end ≡ None → HasText printed.tally input editors text) → PrintsAtEnd outlet text old new given ended → IsPrintEnd input printed given ended → (ended ≡ served.Printed → HasServedOn store input editors printed.tally back)
-    → ended ≡ served.Printed → HasPrintedOn script_text store input editors (outlet.contents old) (outlet.contents new) back
-script_gathered outlet store input editors printed given ended text old new back has prints end on is =
+pub script_gathered : {D J W : Type 0} {V : _} → (outlet : Ghosts W) (stream : Streams J) (store : Store D V) (printed : Printed) (given : Option Fault) (ended : Served) (text : List ℕ) (old new : W) (back : Option D)
+    → (printed.end ≡ None → HasText printed.tally stream.input stream.editors text) → PrintsAtEnd outlet text old new given ended → IsPrintEnd stream.input printed given ended → (ended ≡ served.Printed → HasServedOn store stream.input stream.editors printed.tally back)
+    → ended ≡ served.Printed → HasPrintedOn script_text stream store (outlet.contents old) (outlet.contents new) back
+script_gathered outlet stream store printed given ended text old new back has prints end on is =
     let none = none_given given ended end.finish is in
     record {
       tally = printed.tally;
-      printed = printed_as script_text printed.tally input editors (Appends (Some []) (Some text)) (Appends (outlet.contents old) (outlet.contents new)) (has (end.done none))
+      printed = printed_as script_text printed.tally stream.input stream.editors (Appends (Some []) (Some text)) (Appends (outlet.contents old) (outlet.contents new)) (has (end.done none))
           (λ lines same. subst (λ (t : List ℕ). Appends (outlet.contents old) (outlet.contents new) t) same (prints.printed is));
       whole = end.whole none;
       on = on is;

@@ -11,8 +11,8 @@ ghost use Rattle.line_exchange.specs.Gathers.{BreaksOff, IsServed};
 ghost use Rattle.line_exchange.specs.declared.served.Served.{Served};
 ghost use Rattle.line_exchange.specs.Ends.{IsToldOrFailed, TellsEnd, fault_of};
 ghost use Rattle.line_exchange.specs.Inputs.{Script};
-ghost use Rattle.live_service.specs.Runs.{HasServedScript};
-ghost use Rattle.live_service.specs.Services.{AnswersScript, FailsScript, ServesScript};
+ghost use Rattle.live_service.specs.Runs.{HasServedScript, writer_use};
+ghost use Rattle.live_service.specs.Services.{AnswersScript, FailsScript, ServesScript, lent};
 
 use checkpoint::standing_law;
 use command_output::{Fault, FaultWriter};
@@ -66,8 +66,8 @@ where
     requires builds { opened.config.builds ≡ Builds.InTurn }
     requires book { blank.book ≡ J.book }
     ensures same_out { result.0.ghost_name ≡ gatherer.entry.out.ghost_name }
-    ensures served { HasServedScript O.AnswerWriter script.items J.input J.editors opened.store
-        gatherer.entry.out.now result.0.now result.1 result.2 }
+    ensures served { HasServedScript (writer_use O.AnswerWriter gatherer.entry.out.now result.0.now) script.items
+        J.Stream opened.store result.1 result.2 }
 {
     let lines = ScriptSource {
         lines: script.into_iter(),
@@ -104,7 +104,7 @@ where
     requires script { J.input ≡ Script script.items }
     requires builds { opened.config.builds ≡ Builds.InTurn }
     requires book { blank.book ≡ J.book }
-    ensures { HasServedScript O.AnswerWriter script.items J.input J.editors opened.store out.old out.new result.0 result.1 }
+    ensures { HasServedScript (writer_use O.AnswerWriter out.old out.new) script.items J.Stream opened.store result.0 result.1 }
 {
     let alloc = env.alloc;
     let gatherer = Gatherer {
@@ -161,7 +161,8 @@ where
     ensures left { IsLeftBy D.Disk device.disk result.1 }
     // Where no fault comes, the device came back, and the answers are of one list of requests.
     ensures one_list { OnOk result.0
-        (AnswersScript D.Disk device.disk result.1 script.items device.config.editors O.contents out.old out.new) }
+        (AnswersScript (lent D.Disk device.disk result.1) script.items device.config.editors
+        (O.contents out.old) (O.contents out.new)) }
 {
     let ServedDevice {
         disk,
@@ -211,10 +212,11 @@ where
     requires config { IsServiceConfig device.config }
     requires sessions { AreOfSessions device.config.editors script.items }
     ensures done { result.0 ≡ Served.Printed
-        → ServesScript D.Disk device.disk result.1 script.items device.config.editors O.contents out.old out.new }
+        → ServesScript (lent D.Disk device.disk result.1) script.items device.config.editors
+        (O.contents out.old) (O.contents out.new) }
     ensures quiet { result.0 ≡ Served.Printed → err.new ≡ err.old }
     ensures fault { IfSome (fault_of result.0) (λ fault.
-        FailsScript D.Disk device.disk device.words result.1 O.AnswerWriter script.items out.old out.new fault) }
+        FailsScript (lent D.Disk device.disk result.1) device.words (writer_use O.AnswerWriter out.old out.new) script.items fault) }
     ensures told { TellsEnd E.contents E.has_failed err.old err.new result.0 }
     ensures back { IsSome result.1 }
     ensures left { IsLeftBy D.Disk device.disk result.1 }
@@ -249,10 +251,11 @@ where
     requires sessions { AreOfSessions device.config.editors script.items }
     ensures few { result.0 ≤ 2 }
     ensures done { result.0 ≡ 0
-        → ServesScript D.Disk device.disk result.1 script.items device.config.editors O.contents out.old out.new }
+        → ServesScript (lent D.Disk device.disk result.1) script.items device.config.editors
+        (O.contents out.old) (O.contents out.new) }
     ensures quiet { result.0 ≡ 0 → err.new ≡ err.old }
     ensures fault { (result.0 ≡ 0) ⊎ ((fault : Fault)
-        × FailsScript D.Disk device.disk device.words result.1 O.AnswerWriter script.items out.old out.new fault
+        × FailsScript (lent D.Disk device.disk result.1) device.words (writer_use O.AnswerWriter out.old out.new) script.items fault
         × (result.0 ≡ status_of fault)
         × IsToldOrFailed (E.contents err.old) (E.contents err.new) (E.has_failed err.new) fault) }
     ensures back { IsSome result.1 }

@@ -3,7 +3,7 @@ use Rattle.std.specs.Io.KnownBytes.{Appends}
 use Rattle.std.proofs.lemmas.Result.{IfErr-at_err, IfOk-at_ok}
 use Rattle.line_exchange.specs.Gathers.{IsServed}
 use Rattle.live_service.specs.ServeEnds.{IsServeEnd}
-use Rattle.live_service.specs.Services.{AnswersScript}
+use Rattle.live_service.specs.Services.{AnswersScript, lent}
 use Rattle.command_output.specs.declared.fault.Fault.TheVariants.{Output}
 use Rattle.file_commands.specs.declared.devices.Access.TheVariants.{ToChange}
 use Rattle.file_commands.specs.Events.{HasDone}
@@ -65,7 +65,7 @@ returns g c =
           did = served g.F.Devices.opened g.F.Devices.events c.args.devices.now _ c.close_back.new.devices service.device.now disk back c.in_ok-disk.ensures.opened c.in_ok-disk.ensures.listed c.close_back.ensures;
           holds = (
             IfOk-at_ok (λ _. IsServed lines (Appends (g.O.Write.contents c.args.out.now) (g.O.Write.contents c.serve_lines-answer.new.out))) c.in_ok-answer.was by.printed,
-            IfOk-at_ok (λ _. AnswersScript g.F.Device.Disk disk back lines service.config.editors g.O.Write.contents c.args.out.now c.serve_lines-answer.new.out) c.in_ok-answer.was by.one_list,
+            IfOk-at_ok (λ _. AnswersScript (lent g.F.Device.Disk disk back) lines service.config.editors (g.O.Write.contents c.args.out.now) (g.O.Write.contents c.serve_lines-answer.new.out)) c.in_ok-answer.was by.one_list,
             by.left,
           );
         },

@@ -8,6 +8,6 @@ use Rattle.live_service.proofs.engine.run.Goals as goal
 
 pub returns-in-Err : goal.returns-in-Err
 returns-in-Err g c =
-    stopped_early g.B.BoardName.opening g.J.Stream.book (store_of c.args.committer) g.J.Stream.input g.J.Stream.editors c.in-Err.cause (view_of c.into_store.result) c.in-Err.ensures.only.not_device
+    stopped_early g.B.BoardName.opening g.J.Stream (store_of c.args.committer) c.in-Err.cause (view_of c.into_store.result) c.in-Err.ensures.only.not_device
     (subst (λ s. HasSettledSome (state_of (store_of c.args.committer)) (view_of (store_of c.args.committer)) (view_of s)) (sym c.into_store.ensures)
     (some_settled_still c.args.committer c.begun.new.committer c.requires.fresh.up c.begun.ensures.only.stays))

@@ -16,7 +16,7 @@ returns-clause-printed g c =
     let now = c.serve_opened-terminal.result.0.out.now in
     let ended = c.serve_opened-terminal.result.1 in
     let printed : PrintsTo outlet g.J.Stream.input g.J.Stream.editors c.args.out.now now ended =
-    run_prints c.serve_opened-terminal.ensures outlet g.J.Stream.editors (λ t. t.out.now)
+    run_prints c.serve_opened-terminal.ensures outlet (λ t. t.out.now)
     (λ mid printed given printing finishing. subst (λ o. PrintsSo outlet g.J.Stream.input g.J.Stream.editors c.args.out.now o printed) (sym finishing.2) printing.3) (λ given finishing. finishing.2) in
     let same : c.out-1.given.0 ≡ now = search rules in
     subst (λ o. PrintsTo outlet g.J.Stream.input g.J.Stream.editors c.args.out.now o ended) (sym same) printed
@@ -35,12 +35,10 @@ pub returns-clause-one_list : goal.returns-clause-one_list
 returns-clause-one_list g c is =
     let ran = ran_of c.serve_opened-terminal.ensures is in
     let store = c.args.opened.store in
-    let input = g.J.Stream.input in
-    let editors = g.J.Stream.editors in
     let outlet = g.O.AnswerWriter in
     let old = outlet.contents c.args.out.now in
     let back = c.serve_opened-terminal.result.2 in
-    let all : HasPrintedOn answer_text store input editors old (outlet.contents c.serve_opened-terminal.result.0.out.now) back =
-    subst (λ o. HasPrintedOn answer_text store input editors old (outlet.contents o) back) (sym ran.finishing.2)
-    (prints_on outlet store input editors c.args.out.now ran.mid.out.now ran.printed ran.given c.serve_opened-terminal.result.1 back ran.printing.3 ran.print_end ran.one_list is) in
+    let all : HasPrintedOn answer_text g.J.Stream store old (outlet.contents c.serve_opened-terminal.result.0.out.now) back =
+    subst (λ o. HasPrintedOn answer_text g.J.Stream store old (outlet.contents o) back) (sym ran.finishing.2)
+    (prints_on outlet g.J.Stream store c.args.out.now ran.mid.out.now ran.printed ran.given c.serve_opened-terminal.result.1 back ran.printing.3 ran.print_end ran.one_list is) in
     search rules

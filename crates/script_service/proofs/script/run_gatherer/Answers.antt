@@ -49,6 +49,6 @@ returns-clause-served g c =
       one_list = λ is.
           let ran = ran_of run is in
           let text = string_bytes ran.mid.text in
-          script_gathered outlet c.args.opened.store input editors ran.printed ran.given ended text old now c.serve_opened-gatherer.result.2 ran.printing.3
+          script_gathered outlet g.J.Stream c.args.opened.store ran.printed ran.given ended text old now c.serve_opened-gatherer.result.2 ran.printing.3
           (subst (λ o. PrintsAtEnd outlet text o now ran.given ended) ran.printing.1 ran.finishing.1) ran.print_end ran.one_list is;
     }

@@ -15,11 +15,11 @@ use Rattle.live_service.proofs.OneListed.{put_of_all, served_all}
 use Rattle.live_service.proofs.engine.fn.run_seats.scope.Goals as goal
 
 pub returns-in_default : goal.returns-in_default
-returns-in_default g c = memory_early g.B.BoardName.opening g.J.Stream.book (store_of c.captures.committer) c.into_store.result g.J.Stream.input g.J.Stream.editors c.requires.fresh.up c.into_store.ensures
+returns-in_default g c = memory_early g.B.BoardName.opening g.J.Stream (store_of c.captures.committer) c.into_store.result c.requires.fresh.up c.into_store.ensures
 
 pub returns-in_default-with_capacity : goal.returns-in_default-with_capacity
 returns-in_default-with_capacity g c =
-    memory_early g.B.BoardName.opening g.J.Stream.book (store_of c.captures.committer) c.into_store-in_default-with_capacity.result g.J.Stream.input g.J.Stream.editors c.requires.fresh.up c.into_store-in_default-with_capacity.ensures
+    memory_early g.B.BoardName.opening g.J.Stream (store_of c.captures.committer) c.into_store-in_default-with_capacity.result c.requires.fresh.up c.into_store-in_default-with_capacity.ensures
 
 pub returns : goal.returns
 returns g c =
@@ -28,7 +28,7 @@ returns g c =
     let back = c.into_store-2.result in
     let left : back ≡ store_of now = c.into_store-2.ensures ∙ c.joined_editors-taken.ensures.store in
     let taken = c.joined_editors-taken in
-    served_all first now back g.J.Stream.input g.J.Stream.editors c.commit_lines-own.result c.ended.result g.B.BoardName.opening g.J.Stream.book (record { board = c.history-board.result; puts = taken.result.puts; lines = taken.result.lines })
+    served_all first now back g.J.Stream c.commit_lines-own.result c.ended.result g.B.BoardName.opening (record { board = c.history-board.result; puts = taken.result.puts; lines = taken.result.lines })
     (record {
       settled = (got_of now, subst (λ s. HasSettled (state_of (store_of first)) (got_of now) (view_of (store_of first)) (view_of s)) (sym left) c.commit_lines-own.ensures.settled);
       device = λ is. subst (λ s. HasFailed (view_of (store_of first)) (view_of s)) (sym left) (c.commit_lines-own.ensures.device (c.ended.ensures.device is));

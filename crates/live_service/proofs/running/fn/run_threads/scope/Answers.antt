@@ -12,8 +12,8 @@ returns g c =
     let printed = c.print-console.result.1 in
     let engine = c.join-ended.result.0 in
     let back = c.join-ended.result.1 in
-    let ends : EndsServed g.B.BoardName.opening g.J.Stream.book store g.J.Stream.input g.J.Stream.editors engine (g.A.Device.Disk.view back) =
-    subst (λ (s : Store g.row.A-Device.Denot g.A.Device.Disk). EndsServed g.B.BoardName.opening g.J.Stream.book s g.J.Stream.input g.J.Stream.editors engine (g.A.Device.Disk.view back)) c.in-Ok.ensures.made c.join-ended.ensures in
+    let ends : EndsServed g.B.BoardName.opening g.J.Stream store engine (g.A.Device.Disk.view back) =
+    subst (λ (s : Store g.row.A-Device.Denot g.A.Device.Disk). EndsServed g.B.BoardName.opening g.J.Stream s engine (g.A.Device.Disk.view back)) c.in-Ok.ensures.made c.join-ended.ensures in
     record {
       engine_end = (engine, record { disk = ends.disk; fault = c.conclude-console.ensures.fault });
       console = inl (record {
@@ -23,7 +23,7 @@ returns g c =
         printing = c.print-console.ensures.prints;
         finishing = c.conclude-console.ensures.finishes;
         print_end = c.conclude-console.ensures.printed;
-        one_list = λ is. served_on g.B.BoardName.opening g.J.Stream.book store g.J.Stream.input g.J.Stream.editors engine printed.tally back (c.conclude-console.ensures.on is) ends;
+        one_list = λ is. served_on g.B.BoardName.opening g.J.Stream store engine printed.tally back (c.conclude-console.ensures.on is) ends;
       });
     }
 

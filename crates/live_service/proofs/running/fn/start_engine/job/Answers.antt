@@ -3,4 +3,4 @@ use Rattle.live_service.proofs.Ended.{thread_early}
 use Rattle.live_service.proofs.running.fn.start_engine.job.Goals as goal
 
 pub returns-then-load : goal.returns-then-load
-returns-then-load g c = thread_early g.B.BoardName.opening g.J.Stream.book c.captures.store (g.A.Device.Disk.view c.into_disk.result) g.J.Stream.input g.J.Stream.editors c.requires.up (search rules)
+returns-then-load g c = thread_early g.B.BoardName.opening g.J.Stream c.captures.store (g.A.Device.Disk.view c.into_disk.result) c.requires.up (search rules)
