@@ -10,7 +10,7 @@ use Rattle.group_commit.specs.Limits.{most_held}
 use Rattle.committer.specs.declared.committer.Committer.{Committer}
 use Rattle.committer.specs.Outboxes.{Outgoing, paid, with_posted, with_due}
 use Rattle.committer.specs.Rounds.{with_marks_of}
-use Rattle.committer.specs.CommitterWords.{store_of, held_of, taker_of, got_of, empties_of, posts_of, taken, asked}
+use Rattle.committer.specs.CommitterWords.{store_of, held_of, taker_of, got_of, empties_of, posts_of, taken, held_or_taken}
 use Rattle.committer.specs.Answers.{Group, Takes, StaysPut, IsAtRest, held_group, asked_group, settled_group}
 use Rattle.committer.proofs.Taking.{taken_none}
 use Rattle.committer.proofs.Telling.{tied_tells}
@@ -49,7 +49,7 @@ takes_on held old mid new same takes = subst (λ (t : Taking). Takes held old t)
 -- ---- the group of a round
 
 -- what a round took up is the group that it commits
-pub group_is : {D R : Type 0} {V : _} → (old mid new : Committer D R V) → store_of mid ≡ store_of old → posts_of mid ≡ paid (posts_of old) → held_of mid ≡ asked old mid → taker_of new ≡ taker_of mid
+pub group_is : {D R : Type 0} {V : _} → (old mid new : Committer D R V) → store_of mid ≡ store_of old → posts_of mid ≡ paid (posts_of old) → held_of mid ≡ held_or_taken old mid → taker_of new ≡ taker_of mid
     → held_group mid ≡ asked_group old new
 group_is old mid new store posts held same i = record {
   requests = (held ∙ ap (λ (t : Taking). held_of old ++ drop (length (got_of old)) t.got) (sym same)) i;

@@ -18,7 +18,7 @@ use Rattle.committer.specs.declared.refused.RoundRefused.TheVariants.{Board}
 use Rattle.committer.specs.Outboxes.{Outgoing, all_of, paid, with_posted, with_due}
 use Rattle.committer.specs.Rounds.{with_marks_of, TellsUpTo}
 use Rattle.committer.specs.Crashes.{LeavesGroupWhole}
-use Rattle.committer.specs.CommitterWords.{desk_of, store_of, held_of, taker_of, got_of, empties_of, posts_of, asked}
+use Rattle.committer.specs.CommitterWords.{desk_of, store_of, held_of, taker_of, got_of, empties_of, posts_of, held_or_taken}
 use Rattle.committer.specs.Listed.{StaysListed}
 use Rattle.committer.specs.Rebuilds.{IsBuilt, IsNumbered, IsOwed, IsServed}
 
@@ -62,7 +62,7 @@ held_group c = record { requests = held_of c; before = posts_of c; store = store
 
 -- what a round held or took, behind what was due
 abbrev pub asked_group : {D R : Type 0} {V : _} → Committer D R V → Committer D R V → Group D V
-asked_group old new = record { requests = asked old new; before = paid (posts_of old); store = store_of old }
+asked_group old new = record { requests = held_or_taken old new; before = paid (posts_of old); store = store_of old }
 
 -- what becomes of a group
 abbrev pub settled_group : {D : Type 0} {V : _} → Group D V → Settled

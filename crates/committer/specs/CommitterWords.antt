@@ -52,9 +52,9 @@ abbrev pub taken : {D R : Type 0} {V : _} → Committer D R V → Committer D R 
 taken old new = drop (length (got_of old)) (got_of new)
 
 -- the requests that were held or taken
-abbrev pub asked : {D R : Type 0} {V : _} → Committer D R V → Committer D R V → List Request
-asked old new = held_of old ++ taken old new
+abbrev pub held_or_taken : {D R : Type 0} {V : _} → Committer D R V → Committer D R V → List Request
+held_or_taken old new = held_of old ++ taken old new
 
 -- what becomes of these, from where the store stood
 abbrev pub settled : {D R : Type 0} {V : _} → Committer D R V → Committer D R V → Settled
-settled old new = settle (state_of (store_of old)) (asked old new)
+settled old new = settle (state_of (store_of old)) (held_or_taken old new)

@@ -92,7 +92,7 @@ fn fill<D: Disk, W: Wait>(rt: &W, taker: &mut Taker, desk: &mut Desk<D>) -> usiz
 }
 
 impl<D: Disk, R: Wait + Drop> Committer<D, R> {
-    ghost use Rattle.committer.specs.CommitterWords.{store_of, held_of, taker_of, queue_of, got_of, empties_of, posts_of, newest_of, taken, asked, settled};
+    ghost use Rattle.committer.specs.CommitterWords.{store_of, held_of, taker_of, queue_of, got_of, empties_of, posts_of, newest_of, taken, held_or_taken, settled};
     ghost use Rattle.committer.specs.Listed.{IsListedFrom, KeepsWithEarlier, StaysListed};
     ghost use Rattle.committer.specs.Answers.{Takes, MayTakeFewer, StaysPut, asked_group, held_group, settled_group, HasCommitted, OwesMarks, KeepsGroup, IsWorn, LosesDevice, LeavesEither, StaysDown, StaysOwed, GoesOn, IsAtRest, FindsDue, HasRebuilt, LacksScheme, IsNotTaken, IsDueOrDropped};
 
@@ -198,7 +198,7 @@ impl<D: Disk, R: Wait + Drop> Committer<D, R> {
         requires up { is_down (store_of self.old) ≡ false }
         ensures store { store_of self.new ≡ store_of self.old }
         ensures posts { posts_of self.new ≡ posts_of self.old }
-        ensures held { held_of self.new ≡ asked self.old self.new }
+        ensures held { held_of self.new ≡ held_or_taken self.old self.new }
 
         ensures takes { Takes (held_of self.old) (taker_of self.old) (taker_of self.new) }
         ensures number { result ≡ length (taken self.old self.new) }

@@ -25,7 +25,7 @@ use Rattle.committer.specs.declared.committer.Committer.{Committer}
 use Rattle.committer.specs.declared.refused.RoundRefused.{RoundRefused}
 use Rattle.committer.specs.declared.refused.RoundRefused.TheVariants as refused
 use Rattle.committer.specs.Answers.{Group, HasCommitted, IsWorn, KeepsGroup, LeavesEither, LosesDevice, OwesMarks, StaysOwed, asked_group}
-use Rattle.committer.specs.CommitterWords.{asked, posts_of, settled, store_of}
+use Rattle.committer.specs.CommitterWords.{held_or_taken, posts_of, settled, store_of}
 use Rattle.committer.specs.Rounds.{with_marks_of}
 use Rattle.command_output.specs.declared.fault.Fault.{Fault}
 use Rattle.command_output.specs.declared.fault.Fault.TheVariants as told
@@ -151,13 +151,13 @@ by_round {D = D} {V = V} old new rs r answer one up idle ran run verdict state d
     on_ok (Err f) by = tt
 
 -- and where the round was refused
-pub refused_by : {D R : Type 0} {V : _} → (old new : Committer D R V) (r : Request) (why : RoundRefused) → (asked old new ≡ []) ⊎ (asked old new ≡ r ∷ []) → is_down (store_of old) ≡ false → (posts_of old).due ≡ []
+pub refused_by : {D R : Type 0} {V : _} → (old new : Committer D R V) (r : Request) (why : RoundRefused) → (held_or_taken old new ≡ []) ⊎ (held_or_taken old new ≡ r ∷ []) → is_down (store_of old) ≡ false → (posts_of old).due ≡ []
     → ((settled old new).accepted ≡ [] → store_of new ≡ store_of old) → IsSameDevice (view_of (store_of old)) (view_of (store_of new)) → LeavesEither (asked_group old new) new
     → (¬ (why ≡ refused.Device) → is_down (store_of new) ≡ false) → (why ≡ refused.Down → ⊥) → (why ≡ refused.Memory → KeepsGroup (asked_group old new) new) → (why ≡ refused.Worn → IsWorn (asked_group old new) new)
     → (why ≡ refused.Device → LosesDevice (asked_group old new) new) → (why ≡ refused.Board → StaysOwed old new ⊎ OwesMarks (asked_group old new) new)
     → IsSettledTo (state_by (state_of (store_of old)) r) r.change (store_of old) (store_of new) (Err (round_fault why))
 refused_by {D = D} {R = R} {V = V} old new r why one up due idle ran run stays down memory worn device board =
-    by_round (store_of old) (store_of new) (asked old new) r (Err (round_fault why)) one up idle ran run tt tt (decided why refl) (leaves why refl) (threadless why) (fails why refl)
+    by_round (store_of old) (store_of new) (held_or_taken old new) r (Err (round_fault why)) one up idle ran run tt tt (decided why refl) (leaves why refl) (threadless why) (fails why refl)
   where
     Decided : Type 0
     Decided = (is_down (store_of new) ≡ false) × ((state_of (store_of new) ≡ state_of (store_of old)) ⊎ (state_of (store_of new) ≡ (settled old new).state))
@@ -199,10 +199,10 @@ worn_alone refused.Board e = absurd (cc)
 worn_alone refused.Worn e = refl
 
 -- and then the graph takes the change
-pub worn_is_taken : {D R : Type 0} {V : _} → (old new : Committer D R V) (r : Request) → (asked old new ≡ []) ⊎ (asked old new ≡ r ∷ []) → KeepsGroup (asked_group old new) new → IsWorn (asked_group old new) new
+pub worn_is_taken : {D R : Type 0} {V : _} → (old new : Committer D R V) (r : Request) → (held_or_taken old new ≡ []) ⊎ (held_or_taken old new ≡ r ∷ []) → KeepsGroup (asked_group old new) new → IsWorn (asked_group old new) new
     → IsTaken (state_of (store_of old)) r.change
 worn_is_taken old new r one kept worn =
-    taken_either (state_of (store_of old)) (asked old new) r one (λ none. worn.limits.0 ((λ i. (settle (state_of (worn.store i)) (kept.held i)).accepted) ∙ none))
+    taken_either (state_of (store_of old)) (held_or_taken old new) r one (λ none. worn.limits.0 ((λ i. (settle (state_of (worn.store i)) (kept.held i)).accepted) ∙ none))
 
 -- an outcome that tells no verdict is told by these faults alone
 pub outcome_never : {P : Type 0} (answer : Result Verdict Fault) (fault : Fault) → (IsOutcomeFault fault → ⊥) → IfErr answer (λ f. IsOutcomeFault f) → IsErrOf answer fault → P

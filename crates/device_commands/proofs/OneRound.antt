@@ -19,7 +19,7 @@ use Rattle.intake.specs.Outcomes.{standing_on}
 use Rattle.intake.proofs.SettledMarks.{settled_by}
 use Rattle.intake.specs.Turns.{AreFrom, AreOfEditors, last_asked, of}
 use Rattle.committer.specs.declared.committer.Committer.{Committer}
-use Rattle.committer.specs.CommitterWords.{asked, got_of, taker_of}
+use Rattle.committer.specs.CommitterWords.{held_or_taken, got_of, taker_of}
 use Rattle.committer.specs.Outboxes.{Outgoing}
 use Rattle.device_commands.specs.Seats.{IsSeatOf, IsToldBy}
 
@@ -68,9 +68,9 @@ one_of session r (x ∷ y ∷ got) waits later from upto put =
 
 -- so it is of what a round settles
 pub asked_one : {D R : Type 0} {V : _} → (old new : Committer D R V) (editor : Editing) (r : Request) (later : List Request) → IsSeatOf old editor → HasTaken (taker_of old) (taker_of new)
-    → r ∷ [] ≡ of editor.session (got_of new ++ later) → (asked old new ≡ []) ⊎ (asked old new ≡ r ∷ [])
+    → r ∷ [] ≡ of editor.session (got_of new ++ later) → (held_or_taken old new ≡ []) ⊎ (held_or_taken old new ≡ r ∷ [])
 asked_one old new editor r later seat taken put =
-    let all : asked old new ≡ got_of new = λ i. seat.held i ++ drop (length (seat.got i)) (got_of new) in
+    let all : held_or_taken old new ≡ got_of new = λ i. seat.held i ++ drop (length (seat.got i)) (got_of new) in
     let from : editor.session ≡ (taker_of new).first = sym (taken.first ∙ seat.alone.0) in
     let upto : editor.session + 1 ≡ (taker_of new).made = sym (taken.made ∙ seat.alone.1) in
     ⊎_elim

@@ -18,7 +18,7 @@ use Rattle.group_commit.proofs.SettlingLemmas.{settle-append, one_mark_each}
 use Rattle.intake.specs.declared.outcome.Outcome.TheVariants.{Down, Waiting}
 use Rattle.intake.specs.Outcomes.{by_mark, unsettled, told, is_open}
 use Rattle.event_laws.specs.LaterLives.{LifeLists, let_in, answered, IsLife}
-use Rattle.event_laws.specs.Submits.{board_at, IsLastOf, is_busy}
+use Rattle.event_laws.specs.Submits.{board_of_lists, IsLastOf, is_busy}
 use Rattle.event_laws.proofs.Turns.{asked_append, none_first}
 use Rattle.request_lists.proofs.Posted.{marks_take}
 use Rattle.event_laws.proofs.Settled.{board_shows, untouched, own_time, more_times}
@@ -89,8 +89,8 @@ seen_by starts count log front whole s (Some l) wide rises each is free =
     let a = greatest starts (asked front) s l wide rises own in
     omega (arith, a, is)
 
-pub free_shows_last : (life : LifeLists) → IsLife life → (k s : ℕ) (last : Option ℕ) → IsLastOf life.opened.tickets (let_in life) s last → is_busy (board_at life k) s last ≡ false
-    → last_of (board_at life k).accepted s ≡ last_of (answered life).state.tickets s
+pub free_shows_last : (life : LifeLists) → IsLife life → (k s : ℕ) (last : Option ℕ) → IsLastOf life.opened.tickets (let_in life) s last → is_busy (board_of_lists life k) s last ≡ false
+    → last_of (board_of_lists life k).accepted s ≡ last_of (answered life).state.tickets s
 free_shows_last life is k s last is_last free =
     let ts = life.opened.tickets in
     let l = looked life is k in
@@ -110,6 +110,6 @@ free_shows_last life is k s last is_last free =
     ap (λ (ps : List (ℕ × ℕ)). last_of (tickets_after ts ps) s) pairs ∙ ap (λ (x : List ℕ). last_of x s) (after_append ts (asked front) (asked (middle ++ behind))) in
     let none : NoneOf s (asked (middle ++ behind)) = none_of (tickets_after ts (asked front)) (asked (middle ++ behind)) s (after_wide ts (asked front) is.wide) (rises_rest ts (asked front) (asked (middle ++ behind)) rises) (omega (arith, all, seen)) in
     let none_between : NoneOf s (asked middle) = none_first s (asked middle) (asked behind) (subst (NoneOf s) (asked_append middle behind) none) in
-    let board : (board_at life k).accepted ≡ (settle life.opened front).state.tickets = accepted_as_told ts life.opened.count (take k life.posted) ∙ (ap (fold accepting ts) l.marks ∙ board_shows life.opened front) in
+    let board : (board_of_lists life k).accepted ≡ (settle life.opened front).state.tickets = accepted_as_told ts life.opened.count (take k life.posted) ∙ (ap (fold accepting ts) l.marks ∙ board_shows life.opened front) in
     let settled : (answered life).state ≡ (settle (settle life.opened front).state middle).state = ap (λ (x : List Request). (settle life.opened x).state) (sym parts) ∙ ap (λ (x : Settled). x.state) (settle-append life.opened front middle) in
     ap (λ (x : List ℕ). last_of x s) board ∙ (sym (untouched s (settle life.opened front).state middle none_between) ∙ ap (λ (x : State). last_of x.tickets s) (sym settled))

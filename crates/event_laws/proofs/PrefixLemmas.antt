@@ -9,7 +9,7 @@ use Rattle.layout_2.specs.Standing.{StandsFor}
 use Rattle.group_commit.specs.Settling.{Settled, settle}
 use Rattle.group_commit.specs.Laws.{SettlesInParts, AcceptedLead, CountRises}
 use Rattle.event_laws.specs.History.{Lists, settled, state_at, Whole, EndBy, IsPrefixState, IsTied}
-use Rattle.event_laws.specs.Happenings.{took, held, state_held, tried, IsEither}
+use Rattle.event_laws.specs.Happenings.{took, listed_held, state_held, tried, IsEither}
 
 -- what settling is good for, as far as it is used here
 pub record Laws : Type 0 where
@@ -37,13 +37,13 @@ whole_ends n (x ∷ gs) w = (λ h. absurd (let e = w.0 in let f = h.1 in omega a
 -- the state after all that was taken
 pub held_state : (laws : Laws) (first : State) (a : Lists) → IsTied first a → state_held a ≡ state_at first a.taken (length a.taken)
 held_state laws first a tied =
-    ap (λ s. settled s (held a)) tied.state
+    ap (λ s. settled s (listed_held a)) tied.state
     ∙ sym (ap (λ (r : Settled). r.state) (laws.in_parts first (take a.done a.taken) (drop a.done a.taken)))
     ∙ ap (λ l. settled first l) (take-append-drop a.done a.taken ∙ sym (take-length a.taken))
 
 -- the count doesn't fall
 pub held_count : (laws : Laws) (a : Lists) → a.state.count ≤ (state_held a).count
-held_count laws a = let e = laws.count_rises a.state (held a) in omega arith
+held_count laws a = let e = laws.count_rises a.state (listed_held a) in omega arith
 
 -- the first of the accepted requests lead to the state at a place
 accepted_first : (laws : Laws) (first : State) (taken : List Request) (at : ℕ) → take ((state_at first taken at).count - first.count) (settle first taken).accepted ≡ (settle first (take at taken)).accepted

@@ -7,7 +7,7 @@ use Rattle.layout_2.specs.State.{asked}
 use Rattle.group_commit.proofs.TurnLemmas.{turn_push}
 use Rattle.intake.specs.declared.outcome.SubmitRefused.TheVariants.{Busy, AlreadyIn, OldTicket, Worn}
 use Rattle.event_laws.specs.LaterLives.{LifeLists, let_in, answered, IsLife, AreChained, last_life, joined}
-use Rattle.event_laws.specs.Submits.{board_at, IsLastOf, is_busy, IsRefusedAsIn}
+use Rattle.event_laws.specs.Submits.{board_of_lists, IsLastOf, is_busy, IsRefusedAsIn}
 use Rattle.event_laws.specs.OnceLaws.{IsExactlyOnce, ExactlyOnce, LetInTurn}
 use Rattle.event_laws.proofs.Chains.{first_life, last_is_life, chain_first, joined_rises, leads, resumes, last_joined, let_in_new, acknowledged}
 use Rattle.event_laws.proofs.Boards.{free_shows_last}
@@ -35,17 +35,17 @@ let_in_turn starts requests board last r turn there is none =
 
 -- a ticket that is no later than the last one that is in is refused as one that is in
 is_refused : (life : LifeLists) → IsLife life → (s t k : ℕ) (last : Option ℕ) → IsLastOf life.opened.tickets (let_in life) s last → t ≤ last_of (answered life).state.tickets s → IsRefusedAsIn life k s last t
-is_refused life is s t k last is_last low = by (is_busy (board_at life k) s last) refl
+is_refused life is s t k last is_last low = by (is_busy (board_of_lists life k) s last) refl
   where
     start : ℕ
     start = last_of life.opened.tickets s
 
-    by : (busy : Bool) → is_busy (board_at life k) s last ≡ busy
-        → cond busy (Some Busy) (cond (nat_le t (last_of (board_at life k).accepted s)) (Some AlreadyIn) (cond (nat_le t (unwrap_or last start)) (Some OldTicket) (cond (nat_lt worn_limit t) (Some Worn) None))) ≡ Some (cond busy Busy AlreadyIn)
+    by : (busy : Bool) → is_busy (board_of_lists life k) s last ≡ busy
+        → cond busy (Some Busy) (cond (nat_le t (last_of (board_of_lists life k).accepted s)) (Some AlreadyIn) (cond (nat_le t (unwrap_or last start)) (Some OldTicket) (cond (nat_lt worn_limit t) (Some Worn) None))) ≡ Some (cond busy Busy AlreadyIn)
     by true e = refl
     by false e =
         let shows = free_shows_last life is k s last is_last e in
-        let inside : nat_le t (last_of (board_at life k).accepted s) ≡ true = grind (arith, nat_tests, shows, low) in
+        let inside : nat_le t (last_of (board_of_lists life k).accepted s) ≡ true = grind (arith, nat_tests, shows, low) in
         ap (λ (b : Bool). cond b (Some AlreadyIn) (cond (nat_le t (unwrap_or last start)) (Some OldTicket) (cond (nat_lt worn_limit t) (Some Worn) None))) inside
 
 once : (life : LifeLists) (rest : List LifeLists) → AreChained life rest → IsExactlyOnce life rest

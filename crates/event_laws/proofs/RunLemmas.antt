@@ -5,12 +5,12 @@ use Rattle.std.proofs.lemmas.List.{take-append-le}
 use Rattle.disk_trait.specs.Disk.{DiskView, MayLeave, Unchanged}
 use Rattle.layout_2.specs.State.{State}
 use Rattle.layout_2.specs.Standing.{StandsFor}
-use Rattle.event_laws.specs.History.{Lists, begun, settled, IsTied}
-use Rattle.event_laws.specs.Happenings.{took, held, state_held, tried, Stays, Waits, Refused, Lost, Won, Happens, stays, waits, refused, lost, won}
+use Rattle.event_laws.specs.History.{Lists, lists_begun, settled, IsTied}
+use Rattle.event_laws.specs.Happenings.{took, listed_held, state_held, tried, Stays, Waits, Refused, Lost, Won, Happens, stays, waits, refused, lost, won}
 use Rattle.event_laws.specs.Runs.{moment_of, LeavesPrefix, Holds, IsRun}
 use Rattle.event_laws.proofs.PrefixLemmas.{Laws, whole_push, whole_ends, ends_push, ends_more, held_state, held_count, took_more, tried_more, now_stands, old_stands, held_stands, either_stands}
 
-pub begins : (first : State) (disk : DiskView) → ((image : List ℕ) → MayLeave disk image → StandsFor first image) → IsRun first disk (begun first) []
+pub begins : (first : State) (disk : DiskView) → ((image : List ℕ) → MayLeave disk image → StandsFor first image) → IsRun first disk (lists_begun first) []
 begins first disk stands = record {
   tied = record { within = le_refl 0; state = refl; whole = tt; ends = tt };
   now = λ image left. record { at = 0; within = le_refl 0; answered = λ _. le_refl 0; holds = le_refl first.count; whole = tt; stands = stands image left };
@@ -142,7 +142,7 @@ counts laws v w a b number (stays x) = none_more a b (took a x.more) number x.li
 counts laws v w a b number (waits x) = none_more a b a number x.lists refl x.none
 counts laws v w a b number (refused x) = none_more a b (tried a a.done a.state false) number x.lists refl x.none
 counts laws v w a b number (lost x) = none_more a b (tried a a.done a.state true) number x.lists refl x.none
-counts laws v w a b number (won x) = ap (λ (l : Lists). l.state.count) x.lists ∙ laws.count_rises a.state (held a) ∙ ap (λ n. a.state.count + n) (sym x.number_is)
+counts laws v w a b number (won x) = ap (λ (l : Lists). l.state.count) x.lists ∙ laws.count_rises a.state (listed_held a) ∙ ap (λ n. a.state.count + n) (sym x.number_is)
 
 pub moments_rise : (laws : Laws) (v w : DiskView) (a b : Lists) (number : ℕ) → Happens v w a b number → (v.clock ≤ w.clock) × (b.state.count ≡ a.state.count + number)
 moments_rise laws v w a b number is = (later v w a b number is, counts laws v w a b number is)

@@ -5,13 +5,13 @@ use Rattle.requests.specs.declared.request.Request.{Request}
 use Rattle.layout_2.specs.State.{State, after}
 use Rattle.layout_2.specs.Standing.{StandsFor}
 use Rattle.group_commit.specs.Settling.{settle}
-use Rattle.event_laws.specs.History.{Lists, begun, state_at}
+use Rattle.event_laws.specs.History.{Lists, lists_begun, state_at}
 use Rattle.event_laws.specs.Happenings.{Happens}
 use Rattle.event_laws.specs.Runs.{moment_of, IsRun}
 
 -- a life begins as a run where each image that a crash may leave stands for what was opened
 abbrev pub Begins : {D : Type 0} → (D → DiskView) → Type 0
-Begins {D} view = (first : State) (disk : D) → ((image : List ℕ) → MayLeave (view disk) image → StandsFor first image) → IsRun first (view disk) (begun first) []
+Begins {D} view = (first : State) (disk : D) → ((image : List ℕ) → MayLeave (view disk) image → StandsFor first image) → IsRun first (view disk) (lists_begun first) []
 
 -- it goes on by each happening, with one moment more
 abbrev pub GoesOn : {D : Type 0} → (D → DiskView) → Type 0

@@ -12,12 +12,12 @@ abbrev pub took : Lists → List Request → Lists
 took a more = record a { taken = a.taken ++ more }
 
 -- the requests that aren't settled
-abbrev pub held : Lists → List Request
-held a = drop a.done a.taken
+abbrev pub listed_held : Lists → List Request
+listed_held a = drop a.done a.taken
 
 -- the state that they lead to
 abbrev pub state_held : Lists → State
-state_held a = settled a.state (held a)
+state_held a = settled a.state (listed_held a)
 
 -- a group, of all that was held, was given to a commit
 abbrev pub tried : Lists → ℕ → State → Bool → Lists
@@ -62,7 +62,7 @@ pub record Won (old new : DiskView) (a b : Lists) (number : ℕ) : Type 0 where
   pub leaves : LeavesOnly old new (IsEither a)
   pub lists : b ≡ tried a (length a.taken) (state_held a) false
   pub stands : (image : List ℕ) → MayLeave new image → StandsFor (state_held a) image
-  pub number_is : number ≡ length (settle a.state (held a)).accepted
+  pub number_is : number ≡ length (settle a.state (listed_held a)).accepted
 
 -- one of these; number is how many changes were answered Ok for
 pub data Happens (old new : DiskView) (a b : Lists) (number : ℕ) : Type 0 where

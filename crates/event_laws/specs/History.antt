@@ -15,8 +15,8 @@ pub record Lists : Type 0 where
   pub down : Bool
 
 -- a life that opened to this state has come to nothing yet
-abbrev pub begun : State → Lists
-begun first = record { taken = []; done = 0; groups = []; state = first; down = false }
+abbrev pub lists_begun : State → Lists
+lists_begun first = record { taken = []; done = 0; groups = []; state = first; down = false }
 
 -- the state after requests
 abbrev pub settled : State → List Request → State

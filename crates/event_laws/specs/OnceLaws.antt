@@ -6,7 +6,7 @@ use Rattle.layout_2.specs.State.{after, asked, AreInTurn}
 use Rattle.generations.specs.Boards.{BoardState}
 use Rattle.intake.specs.Outcomes.{refusal_on}
 use Rattle.event_laws.specs.LaterLives.{LifeLists, IsLife, AreChained, let_in, answered, last_life, in_before, joined, IsAcknowledged}
-use Rattle.event_laws.specs.Submits.{board_at, IsLastOf, is_busy, IsRefusedAsIn}
+use Rattle.event_laws.specs.Submits.{board_of_lists, IsLastOf, is_busy, IsRefusedAsIn}
 
 -- What holds of the joined list of a life and of those that followed it.
 pub record IsExactlyOnce (life : LifeLists) (rest : List LifeLists) : Type 0 where
@@ -38,5 +38,5 @@ LetInTurn = (starts : List ℕ) (requests : List Request) (board : BoardState) (
 
 -- where a session isn't busy on a board of a life, the last accepted ticket that the board has of it is the store's
 abbrev pub FreeShowsLast : Type 0
-FreeShowsLast = (life : LifeLists) → IsLife life → (k s : ℕ) (last : Option ℕ) → IsLastOf life.opened.tickets (let_in life) s last → is_busy (board_at life k) s last ≡ false
-    → last_of (board_at life k).accepted s ≡ last_of (answered life).state.tickets s
+FreeShowsLast = (life : LifeLists) → IsLife life → (k s : ℕ) (last : Option ℕ) → IsLastOf life.opened.tickets (let_in life) s last → is_busy (board_of_lists life k) s last ≡ false
+    → last_of (board_of_lists life k).accepted s ≡ last_of (answered life).state.tickets s

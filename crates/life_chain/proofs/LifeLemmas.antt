@@ -10,7 +10,7 @@ use Rattle.requests.specs.declared.request.Request.{Request}
 use Rattle.layout_2.specs.State.{State, state_with}
 use Rattle.generations.specs.declared.posting.Notice.{Notice}
 use Rattle.group_commit.specs.Settling.{settle}
-use Rattle.event_laws.specs.History.{Lists, begun as none_yet, state_at, IsPrefixState}
+use Rattle.event_laws.specs.History.{Lists, lists_begun as none_yet, state_at, IsPrefixState}
 use Rattle.event_laws.specs.Runs.{IsRun}
 use Rattle.event_model.specs.declared.event.Event.{Event}
 use Rattle.event_model.specs.declared.reply.Reply.{Reply}

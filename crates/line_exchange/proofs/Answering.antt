@@ -8,7 +8,7 @@ use Rattle.live_lines.specs.declared.asked.Asked.{Asked}
 use Rattle.live_lines.specs.declared.asked.Asked.TheVariants as asks
 use Rattle.live_lines.specs.declared.answer.Answer.{Answer}
 use Rattle.live_lines.specs.declared.answer.Answer.TheVariants.{Metrics}
-use Rattle.live_lines.specs.Answers.{Fits, generation_gone}
+use Rattle.live_lines.specs.Answers.{FitsAsked, generation_gone}
 use Rattle.line_exchange.specs.Inputs.{Input}
 use Rattle.line_exchange.specs.Measured.{IsFilled}
 use Rattle.line_exchange.specs.OneList.{AnswersBy, IsOffAt, IsSaidAt, IsSaidBy}
@@ -35,7 +35,7 @@ off_known known seen input editors place asked answer same by is = answers_off k
 -- ---- filled answers
 
 -- what is filled in changes nothing that a list says
-filled_said : (known : Beginning) (asked : Asked) (old new : Answer) → IsFilled old new → Fits asked old → IsSaidBy known asked old → Fits asked new × IsSaidBy known asked new
+filled_said : (known : Beginning) (asked : Asked) (old new : Answer) → IsFilled old new → FitsAsked asked old → IsSaidBy known asked old → FitsAsked asked new × IsSaidBy known asked new
 filled_said known asks.Metrics (Metrics m) (Metrics n) is fits said = (
   tt,
   λ all lawful are_named on.
@@ -43,7 +43,7 @@ filled_said known asks.Metrics (Metrics m) (Metrics n) is fits said = (
       (was.0, was.1, subst (λ (k : ℕ). Counts was.0 k) (sym is.count) was.2, subst (λ (k : ℕ). IsNewest was.0 k) (sym is.generation) was.3)),
 )
 filled_said known _ (Metrics m) (Metrics n) is fits said = absurd fits
-filled_said known asked _ _ is fits said = (subst (λ (a : Answer). Fits asked a) (sym is) fits, subst (λ (a : Answer). IsSaidBy known asked a) (sym is) said)
+filled_said known asked _ _ is fits said = (subst (λ (a : Answer). FitsAsked asked a) (sym is) fits, subst (λ (a : Answer). IsSaidBy known asked a) (sym is) said)
 
 pub filled_at : (known : Beginning) (input : Input) (editors place : ℕ) (old new : Answer) → IsFilled old new → ∥ IsSaidAt known input editors place old ∥₁ → ∥ IsSaidAt known input editors place new ∥₁
 filled_at known input editors place old new is said =

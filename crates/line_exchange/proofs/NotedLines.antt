@@ -10,7 +10,7 @@ use Rattle.requests.specs.Tickets.{last_of, sessions}
 use Rattle.generations.specs.declared.posting.Mark.{Mark}
 use Rattle.generations.proofs.Prefixes.{prefix_trans}
 use Rattle.put_lines.specs.declared.put_line.PutLine.{PutLine}
-use Rattle.put_lines.specs.Lines.{Listed, lines_of}
+use Rattle.put_lines.specs.Lines.{Listed, lines_of_session}
 use Rattle.put_lines.proofs.Appending.{lines_on, other_same, own_more}
 use Rattle.live_lines.specs.declared.answer.Answer.{Answer}
 use Rattle.live_lines.specs.declared.answer.Answer.TheVariants.{Settled}
@@ -55,23 +55,23 @@ none_each session = by (nat_lt session sessions) refl
 pub none_noted : (puts : List ℕ) (lines : List PutLine) → puts ≡ no_puts → AreNotedFirst puts lines []
 none_noted puts lines none = record {
   counted = λ session. ap (λ (l : List ℕ). last_of l session) none ∙ none_each session;
-  first = λ session. (lines_of session lines, refl);
+  first = λ session. (lines_of_session session lines, refl);
 }
 
 -- ---- an answer more
 
 more_same : (old new : List ℕ) (before after : List PutLine) (answers : List Answer) (more : List PutLine) → AreNotedFirst old before answers → IsPrefix before after → new ≡ old → more ≡ puts_in answers
-    → ((session : ℕ) → last_of new session ≡ length (lines_of session more)) × ((session : ℕ) → IsPrefix (lines_of session more) (lines_of session after))
+    → ((session : ℕ) → last_of new session ≡ length (lines_of_session session more)) × ((session : ℕ) → IsPrefix (lines_of_session session more) (lines_of_session session after))
 more_same old new before after answers more are on still same = (
-  (λ session. ap (λ (l : List ℕ). last_of l session) still ∙ (are.counted session ∙ ap (λ (l : List PutLine). length (lines_of session l)) (sym same))),
-  (λ session. subst (λ (l : List PutLine). IsPrefix (lines_of session l) (lines_of session after)) (sym same)
-      (prefix_trans (lines_of session (puts_in answers)) (lines_of session before) (lines_of session after) (are.first session) (lines_on session before after on))),
+  (λ session. ap (λ (l : List ℕ). last_of l session) still ∙ (are.counted session ∙ ap (λ (l : List PutLine). length (lines_of_session session l)) (sym same))),
+  (λ session. subst (λ (l : List PutLine). IsPrefix (lines_of_session session l) (lines_of_session session after)) (sym same)
+      (prefix_trans (lines_of_session session (puts_in answers)) (lines_of_session session before) (lines_of_session session after) (are.first session) (lines_on session before after on))),
 )
 
 -- the line of a verdict more
 more_line : (old new : List ℕ) (before after : List PutLine) (answers : List Answer) (line : PutLine) → AreNotedFirst old before answers → IsPrefix before after → line.session < length old
-    → slice_get (lines_of line.session after) (last_of old line.session) ≡ Some line → new ≡ set old line.session (last_of old line.session + 1)
-    → ((session : ℕ) → last_of new session ≡ length (lines_of session (puts_in answers ++ line ∷ []))) × ((session : ℕ) → IsPrefix (lines_of session (puts_in answers ++ line ∷ [])) (lines_of session after))
+    → slice_get (lines_of_session line.session after) (last_of old line.session) ≡ Some line → new ≡ set old line.session (last_of old line.session + 1)
+    → ((session : ℕ) → last_of new session ≡ length (lines_of_session session (puts_in answers ++ line ∷ []))) × ((session : ℕ) → IsPrefix (lines_of_session session (puts_in answers ++ line ∷ [])) (lines_of_session session after))
 more_line old new before after answers line are on within at is = ((λ session. counted session), (λ session. first session))
   where
     own : ℕ
@@ -81,35 +81,35 @@ more_line old new before after answers line are on within at is = ((λ session. 
     told = puts_in answers
 
     -- what was told before is a beginning still
-    still : (session : ℕ) → IsPrefix (lines_of session told) (lines_of session after)
-    still session = prefix_trans (lines_of session told) (lines_of session before) (lines_of session after) (are.first session) (lines_on session before after on)
+    still : (session : ℕ) → IsPrefix (lines_of_session session told) (lines_of_session session after)
+    still session = prefix_trans (lines_of_session session told) (lines_of_session session before) (lines_of_session session after) (are.first session) (lines_on session before after on)
 
-    counted_own : last_of new own ≡ length (lines_of own (told ++ line ∷ []))
+    counted_own : last_of new own ≡ length (lines_of_session own (told ++ line ∷ []))
     counted_own =
         ap (λ (l : List ℕ). last_of l own) is
         ∙ (get_or-set_same old own (last_of old own + 1) 0 within
-        ∙ (ap (λ (n : ℕ). n + 1) (are.counted own) ∙ sym (ap length (own_more told line) ∙ length-append (lines_of own told) (line ∷ []))))
+        ∙ (ap (λ (n : ℕ). n + 1) (are.counted own) ∙ sym (ap length (own_more told line) ∙ length-append (lines_of_session own told) (line ∷ []))))
 
-    counted : (session : ℕ) → last_of new session ≡ length (lines_of session (told ++ line ∷ []))
+    counted : (session : ℕ) → last_of new session ≡ length (lines_of_session session (told ++ line ∷ []))
     counted session =
-        ⊎_elim (λ same. subst (λ (s : ℕ). last_of new s ≡ length (lines_of s (told ++ line ∷ []))) same.1 counted_own)
+        ⊎_elim (λ same. subst (λ (s : ℕ). last_of new s ≡ length (lines_of_session s (told ++ line ∷ []))) same.1 counted_own)
         (λ other. ap (λ (l : List ℕ). last_of l session) is
         ∙ (get_or-set_other old own session (last_of old own + 1) 0 (λ back. other.1 (sym back)) ∙ (are.counted session ∙ ap length (sym (other_same session told line other.1)))))
         (eqb_tells own session)
 
-    first_own : IsPrefix (lines_of own (told ++ line ∷ [])) (lines_of own after)
+    first_own : IsPrefix (lines_of_session own (told ++ line ∷ [])) (lines_of_session own after)
     first_own =
-        subst (λ (l : List PutLine). IsPrefix l (lines_of own after)) (sym (own_more told line))
-        (prefix_more (lines_of own told) (lines_of own after) line (still own) (subst (λ (n : ℕ). slice_get (lines_of own after) n ≡ Some line) (are.counted own) at))
+        subst (λ (l : List PutLine). IsPrefix l (lines_of_session own after)) (sym (own_more told line))
+        (prefix_more (lines_of_session own told) (lines_of_session own after) line (still own) (subst (λ (n : ℕ). slice_get (lines_of_session own after) n ≡ Some line) (are.counted own) at))
 
-    first : (session : ℕ) → IsPrefix (lines_of session (told ++ line ∷ [])) (lines_of session after)
+    first : (session : ℕ) → IsPrefix (lines_of_session session (told ++ line ∷ [])) (lines_of_session session after)
     first session =
-        ⊎_elim (λ same. subst (λ (s : ℕ). IsPrefix (lines_of s (told ++ line ∷ [])) (lines_of s after)) same.1 first_own)
-        (λ other. subst (λ (l : List PutLine). IsPrefix l (lines_of session after)) (sym (other_same session told line other.1)) (still session))
+        ⊎_elim (λ same. subst (λ (s : ℕ). IsPrefix (lines_of_session s (told ++ line ∷ [])) (lines_of_session s after)) same.1 first_own)
+        (λ other. subst (λ (l : List PutLine). IsPrefix l (lines_of_session session after)) (sym (other_same session told line other.1)) (still session))
         (eqb_tells own session)
 
 by_answer : (old new : List ℕ) (before after : List PutLine) (answers : List Answer) (answer : Answer) → AreNotedFirst old before answers → IsPrefix before after → IsPutNext (length answers) answer old new after
-    → ((session : ℕ) → last_of new session ≡ length (lines_of session (puts_in answers ++ put_at (length answers) answer))) × ((session : ℕ) → IsPrefix (lines_of session (puts_in answers ++ put_at (length answers) answer)) (lines_of session after))
+    → ((session : ℕ) → last_of new session ≡ length (lines_of_session session (puts_in answers ++ put_at (length answers) answer))) × ((session : ℕ) → IsPrefix (lines_of_session session (puts_in answers ++ put_at (length answers) answer)) (lines_of_session session after))
 by_answer old new before after answers (Settled mark) are on next = more_line old new before after answers (put_by mark (length answers)) are on next.0 next.1 next.2
 by_answer old new before after answers _ are on next = more_same old new before after answers (puts_in answers ++ []) are on next (append-nil (puts_in answers))
 
@@ -120,23 +120,23 @@ more_noted old new before after place answers answer are many notes =
     let both = by_answer old new before.lines after.lines answers answer are notes.on next in
     let all = sym (puts_more answers answer) in
     record {
-      counted = λ session. both.0 session ∙ ap (λ (l : List PutLine). length (lines_of session l)) all;
-      first = λ session. subst (λ (l : List PutLine). IsPrefix (lines_of session l) (lines_of session after.lines)) all (both.1 session);
+      counted = λ session. both.0 session ∙ ap (λ (l : List PutLine). length (lines_of_session session l)) all;
+      first = λ session. subst (λ (l : List PutLine). IsPrefix (lines_of_session session l) (lines_of_session session after.lines)) all (both.1 session);
     }
 
 -- ---- one answer
 
 -- a verdict's line was noted as the next one
 pub notes_one : (place : ℕ) (answer : Answer) (mark : Mark) (line : PutLine) (old new : List ℕ) (before after noted : Listed) (number : ℕ) → answer ≡ Settled mark → after.book ≡ before.book → IsPrefix before.lines after.lines
-    → IsPrefix noted.lines after.lines → slice_get (lines_of line.session noted.lines) number ≡ Some line → line.session ≡ mark.session → line.ticket ≡ mark.ticket → line.place ≡ place → mark.session < length old
+    → IsPrefix noted.lines after.lines → slice_get (lines_of_session line.session noted.lines) number ≡ Some line → line.session ≡ mark.session → line.ticket ≡ mark.ticket → line.place ≡ place → mark.session < length old
     → number ≡ last_of old mark.session → new ≡ set old mark.session (number + 1) → NotesMore place answer old new before after
 notes_one place answer mark line old new before after noted number verdict book on covers there session ticket at_place within same is = subst (λ (a : Answer). NotesMore place a old new before after) (sym verdict) (record {
   book = book;
   on = on;
   next = (
     within,
-    in_longer (lines_of mark.session noted.lines) (lines_of mark.session after.lines) (last_of old mark.session) (put_by mark place) (lines_on mark.session noted.lines after.lines covers)
-        (subst (λ (n : ℕ). slice_get (lines_of mark.session noted.lines) n ≡ Some (put_by mark place)) same at),
+    in_longer (lines_of_session mark.session noted.lines) (lines_of_session mark.session after.lines) (last_of old mark.session) (put_by mark place) (lines_on mark.session noted.lines after.lines covers)
+        (subst (λ (n : ℕ). slice_get (lines_of_session mark.session noted.lines) n ≡ Some (put_by mark place)) same at),
     subst (λ (n : ℕ). new ≡ set old mark.session (n + 1)) same is,
   );
 })
@@ -144,8 +144,8 @@ notes_one place answer mark line old new before after noted number verdict book 
     own : line ≡ put_by mark place
     own i = record { session = session i; ticket = ticket i; place = at_place i }
 
-    at : slice_get (lines_of mark.session noted.lines) number ≡ Some (put_by mark place)
-    at = subst (λ (l : PutLine). slice_get (lines_of l.session noted.lines) number ≡ Some l) own there
+    at : slice_get (lines_of_session mark.session noted.lines) number ≡ Some (put_by mark place)
+    at = subst (λ (l : PutLine). slice_get (lines_of_session l.session noted.lines) number ≡ Some l) own there
 
     in_longer : (xs ys : List PutLine) (k : ℕ) (x : PutLine) → IsPrefix xs ys → slice_get xs k ≡ Some x → slice_get ys k ≡ Some x
     in_longer [] ys k x p h = absurd (cc)

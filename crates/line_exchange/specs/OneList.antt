@@ -22,7 +22,7 @@ use Rattle.live_lines.specs.declared.asked.Asked.{Asked}
 use Rattle.live_lines.specs.declared.asked.Asked.TheVariants as asks
 use Rattle.live_lines.specs.declared.answer.Answer.{Answer}
 use Rattle.live_lines.specs.declared.answer.Answer.TheVariants.{Settled, AlreadyIn, RefusedBefore, OldTicket, Way, NoNode, Told, Sent, Moved, NotCarried, State, Waited, BackedUp, Metrics}
-use Rattle.live_lines.specs.Answers.{Fits, generation_gone}
+use Rattle.live_lines.specs.Answers.{FitsAsked, generation_gone}
 use Rattle.line_exchange.specs.Inputs.{Input}
 use Rattle.line_exchange.specs.Streams.{AreEachAt, IsAskedAt}
 
@@ -117,7 +117,7 @@ IsSaidIn all asked answer = Unit {0}
 pub record IsAnswerOf (Says : Beginning → Asked → Answer → Type 0) (list : Beginning) (input : Input) (editors place : ℕ) (answer : Answer) : Type 0 where
   pub asked : Asked
   pub by : IsAskedAt input editors place asked
-  pub fits : Fits asked answer
+  pub fits : FitsAsked asked answer
   pub said : Says list asked answer
 
 -- each answer is to the line at its place, and the list says it
@@ -162,7 +162,7 @@ IsSaidBy known asked answer = HoldsOf known (λ all. IsSaidIn all asked answer)
 -- An answer to what is asked for, by what is known of the list.
 pub record AnswersBy (known : Beginning) (asked : Asked) (answer : Answer) : Type 0 where
   -- it is of the kind that is asked for
-  pub fits : Fits asked answer
+  pub fits : FitsAsked asked answer
   -- each list says it that goes on from here
   pub said : IsSaidBy known asked answer
   -- it tells that a generation is gone only where that is so

@@ -4,7 +4,7 @@ use mathlib.Core.List.{IsPrefix}
 use Rattle.requests.specs.Tickets.{last_of, sessions}
 use Rattle.generations.specs.declared.posting.Mark.{Mark}
 use Rattle.put_lines.specs.declared.put_line.PutLine.{PutLine}
-use Rattle.put_lines.specs.Lines.{Listed, lines_of}
+use Rattle.put_lines.specs.Lines.{Listed, lines_of_session}
 use Rattle.live_lines.specs.declared.answer.Answer.{Answer}
 use Rattle.live_lines.specs.declared.answer.Answer.TheVariants.{Settled}
 
@@ -35,7 +35,7 @@ no_puts = replicate sessions 0
 -- the line of a verdict was noted as the next one of its session
 abbrev pub IsPutNext : ℕ → Answer → List ℕ → List ℕ → List PutLine → Type 0
 IsPutNext place (Settled mark) old new lines =
-    (mark.session < length old) × (slice_get (lines_of mark.session lines) (last_of old mark.session) ≡ Some (put_by mark place)) × (new ≡ set old mark.session (last_of old mark.session + 1))
+    (mark.session < length old) × (slice_get (lines_of_session mark.session lines) (last_of old mark.session) ≡ Some (put_by mark place)) × (new ≡ set old mark.session (last_of old mark.session + 1))
 IsPutNext place other old new lines = new ≡ old
 
 -- an answer more: so many lines of each session, and what was noted
@@ -46,5 +46,5 @@ pub record NotesMore (place : ℕ) (answer : Answer) (old new : List ℕ) (befor
 
 -- Of each session the lines that are answered by verdicts are the first ones that were noted, so many.
 pub record AreNotedFirst (puts : List ℕ) (lines : List PutLine) (answers : List Answer) : Type 0 where
-  pub counted : (session : ℕ) → last_of puts session ≡ length (lines_of session (puts_in answers))
-  pub first : (session : ℕ) → IsPrefix (lines_of session (puts_in answers)) (lines_of session lines)
+  pub counted : (session : ℕ) → last_of puts session ≡ length (lines_of_session session (puts_in answers))
+  pub first : (session : ℕ) → IsPrefix (lines_of_session session (puts_in answers)) (lines_of_session session lines)

@@ -4,7 +4,7 @@ use Rattle.input_lines.specs.Lines.{line_at, longest_line}
 use Rattle.live_lines.specs.declared.asked.Asked.{Asked}
 use Rattle.live_lines.specs.declared.asked.Asked.TheVariants.{NotUnderstood}
 use Rattle.live_lines.specs.declared.answer.Answer.{Answer}
-use Rattle.live_lines.specs.Answers.{Fits}
+use Rattle.live_lines.specs.Answers.{FitsAsked}
 use Rattle.live_lines.specs.Lines.{IsAskedIn}
 use Rattle.line_exchange.specs.Inputs.{Input, Bytes, Script}
 use Rattle.line_exchange.specs.Scripts.{IsLineAsked}
@@ -28,7 +28,7 @@ IsAskedAt (Script script) editors place asked = IsLineAsked script place asked
 pub record IsAnswerAt (input : Input) (editors place : ℕ) (answer : Answer) : Type 0 where
   pub asked : Asked
   pub by : IsAskedAt input editors place asked
-  pub fits : Fits asked answer
+  pub fits : FitsAsked asked answer
 
 -- each answer is so at its place
 abbrev pub AreEachAt : (ℕ → Answer → Type 0) → List Answer → Type 0

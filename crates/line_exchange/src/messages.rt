@@ -1,6 +1,6 @@
 // What threads send to one another of the lines of a service.
 ghost use Rattle.std.specs.Prelude.{◌≡◌, Some, slice_get};
-ghost use Rattle.put_lines.specs.Lines.{lines_of};
+ghost use Rattle.put_lines.specs.Lines.{lines_of_session};
 ghost use Rattle.live_lines.specs.Answers.{generation_gone};
 ghost use Rattle.line_exchange.specs.Streams.{IsAskedAt};
 ghost use Rattle.line_exchange.specs.OneList.{IsOffAt, IsSaidAt};
@@ -64,7 +64,7 @@ pub struct NotedLine<J: Stream> {
     pub lines: PutLines,
     pub of: PhantomData<J>,
     ghost book_is: { lines.book ≡ J.book },
-    ghost next: { slice_get (lines_of line.session lines.lines) number ≡ Some line },
+    ghost next: { slice_get (lines_of_session line.session lines.lines) number ≡ Some line },
 }
 
 /// An answer to the line at a place, and what was known of the list of postings when it was given: each list that goes on from there

@@ -26,7 +26,7 @@ use Rattle.service_actors.specs.declared.session_editor.EditEnd.TheVariants as e
 use Rattle.live_lines.specs.declared.asked.Asked.TheVariants as asks
 use Rattle.live_lines.specs.declared.answer.Answer.{Answer}
 use Rattle.live_lines.specs.declared.answer.Answer.TheVariants as answers
-use Rattle.live_lines.specs.Answers.{Fits, IsOfTicket}
+use Rattle.live_lines.specs.Answers.{FitsAsked, IsOfTicket}
 use Rattle.line_exchange.specs.OneList.{IsSaidBy, last_in}
 
 -- ---- marks
@@ -126,7 +126,7 @@ of_ticket e (Some asked) ticket told is same = same ∙ is
 
 -- and its mark is of what was asked for
 pub settled_fits : (e new : Editing) (session : ℕ) (named : Option ℕ) (change : List Op) (ticket : ℕ) (end : EditEnd) (mark : Mark) → end ≡ ends.Settled mark → session ≡ e.session → ticket ≡ asked_ticket e named
-    → IsEditEnd e ticket change new end → Fits (asks.Edit session named change) (answers.Settled mark)
+    → IsEditEnd e ticket change new end → FitsAsked (asks.Edit session named change) (answers.Settled mark)
 settled_fits e new session named change ticket end mark same of under is =
     let put = subst (λ (x : EditEnd). IsEditEnd e ticket change new x) same is in
     (put.0.told.0 ∙ sym of, of_ticket e named ticket mark.ticket under put.1)

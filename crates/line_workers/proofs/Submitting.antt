@@ -8,14 +8,14 @@ use Rattle.requests.specs.declared.request.Request.{Request}
 use Rattle.generations.specs.declared.posting.Mark.{Mark}
 use Rattle.generations.specs.declared.posting.Notice.{Notice}
 use Rattle.put_lines.specs.declared.put_line.PutLine.{PutLine}
-use Rattle.put_lines.specs.Lines.{AddsLine, Listed, lines_of}
+use Rattle.put_lines.specs.Lines.{AddsLine, Listed, lines_of_session}
 use Rattle.intake.specs.Editors.{Editing}
 use Rattle.service_actors.specs.Edited.{IsSameEditor}
 use Rattle.live_lines.specs.declared.asked.Asked.{Asked}
 use Rattle.live_lines.specs.declared.asked.Asked.TheVariants.{Edit}
 use Rattle.live_lines.specs.declared.answer.Answer.{Answer}
 use Rattle.live_lines.specs.declared.answer.Answer.TheVariants.{Settled}
-use Rattle.live_lines.specs.Answers.{Fits, IsOfTicket}
+use Rattle.live_lines.specs.Answers.{FitsAsked, IsOfTicket}
 use Rattle.line_exchange.specs.Inputs.{Input}
 use Rattle.line_exchange.specs.Streams.{IsAskedAt}
 use Rattle.line_exchange.specs.PutLines.{put_by}
@@ -40,35 +40,35 @@ put_at input editors place session s told ticket change asked same under =
 noted_still : (book : Book) (input : Input) (editors : ℕ) (old new : Editing) (before after : Noted) → HasNoted book input editors old before → new.session ≡ old.session → new.put ≡ old.put → after.number ≡ before.number → after.lines ≡ before.lines
     → HasNoted book input editors new after
 noted_still book input editors old new before after has own put number lines =
-    let same : lines_of new.session after.lines.lines ≡ lines_of old.session before.lines.lines = (λ i. lines_of (own i) (lines i).lines) in
+    let same : lines_of_session new.session after.lines.lines ≡ lines_of_session old.session before.lines.lines = (λ i. lines_of_session (own i) (lines i).lines) in
     record {
       book_is = ap (λ (l : Listed). l.book) lines ∙ has.book_is;
       number = number ∙ (has.number ∙ ap length (sym same));
-      put = subst (λ (rs : List Request). ArePutBy input editors (lines_of new.session after.lines.lines) rs) (sym put)
+      put = subst (λ (rs : List Request). ArePutBy input editors (lines_of_session new.session after.lines.lines) rs) (sym put)
           (subst (λ (ls : List PutLine). ArePutBy input editors ls old.put) (sym same) has.put);
     }
 
 -- a line put a request, and was noted
 noted_put : (book : Book) (input : Input) (editors place session : ℕ) (ticket : Option ℕ) (change : List Op) (mark : Mark) (old new : Editing) (before after : Noted) → HasNoted book input editors old before → new.session ≡ old.session
-    → ∥ IsAskedAt input editors place (Edit session ticket change) ∥₁ → Fits (Edit session ticket change) (Settled mark) → HasPutFor (Edit session ticket change) (Settled mark) old new
+    → ∥ IsAskedAt input editors place (Edit session ticket change) ∥₁ → FitsAsked (Edit session ticket change) (Settled mark) → HasPutFor (Edit session ticket change) (Settled mark) old new
     → NotesAnswer old.session place (Settled mark) before after → HasNoted book input editors new after
 noted_put book input editors place session ticket change mark old new before after has own asked fits put notes =
     let line = put_by mark place in
     let request : Request = record { session = mark.session; ticket = mark.ticket; change = change } in
     let mine : mark.session ≡ new.session = notes.0 ∙ sym own in
-    let all : lines_of new.session after.lines.lines ≡ lines_of old.session before.lines.lines ++ line ∷ [] =
-    subst (λ (s : ℕ). lines_of s after.lines.lines ≡ lines_of s before.lines.lines ++ line ∷ []) mine notes.2.added ∙ ap (λ (s : ℕ). lines_of s before.lines.lines ++ line ∷ []) own in
+    let all : lines_of_session new.session after.lines.lines ≡ lines_of_session old.session before.lines.lines ++ line ∷ [] =
+    subst (λ (s : ℕ). lines_of_session s after.lines.lines ≡ lines_of_session s before.lines.lines ++ line ∷ []) mine notes.2.added ∙ ap (λ (s : ℕ). lines_of_session s before.lines.lines ++ line ∷ []) own in
     record {
       book_is = notes.2.book ∙ has.book_is;
-      number = notes.1 ∙ (ap (λ (n : ℕ). n + 1) has.number ∙ sym (ap length all ∙ length-append (lines_of old.session before.lines.lines) (line ∷ [])));
-      put = subst (λ (rs : List Request). ArePutBy input editors (lines_of new.session after.lines.lines) rs) (sym put)
+      number = notes.1 ∙ (ap (λ (n : ℕ). n + 1) has.number ∙ sym (ap length all ∙ length-append (lines_of_session old.session before.lines.lines) (line ∷ [])));
+      put = subst (λ (rs : List Request). ArePutBy input editors (lines_of_session new.session after.lines.lines) rs) (sym put)
           (subst (λ (ls : List PutLine). ArePutBy input editors ls (old.put ++ request ∷ [])) (sym all)
-          (by_more input editors (lines_of old.session before.lines.lines) old.put line request has.put refl (put_at input editors place session mark.session mark.ticket ticket change asked fits.0 fits.1)));
+          (by_more input editors (lines_of_session old.session before.lines.lines) old.put line request has.put refl (put_at input editors place session mark.session mark.ticket ticket change asked fits.0 fits.1)));
     }
 
 -- a line was answered
 pub noted_for : (book : Book) (input : Input) (editors place : ℕ) (asked : Asked) (answer : Answer) (old new : Editing) (before after : Noted) → HasNoted book input editors old before → new.session ≡ old.session
-    → ∥ IsAskedAt input editors place asked ∥₁ → Fits asked answer → HasPutFor asked answer old new → NotesAnswer old.session place answer before after → HasNoted book input editors new after
+    → ∥ IsAskedAt input editors place asked ∥₁ → FitsAsked asked answer → HasPutFor asked answer old new → NotesAnswer old.session place answer before after → HasNoted book input editors new after
 noted_for book input editors place (Edit session ticket change) (Settled mark) old new before after has own asked fits put notes =
     noted_put book input editors place session ticket change mark old new before after has own asked fits put notes
 noted_for book input editors place _ (Settled mark) old new before after has own asked fits put notes = absurd fits
@@ -79,8 +79,8 @@ noted_for book input editors place _ _ old new before after has own asked fits p
 pub none_noted : (book : Book) (input : Input) (editors : ℕ) (editor : Editing) (noted : Noted) → noted.lines.book ≡ book → noted.number ≡ 0 → noted.lines.lines ≡ [] → editor.put ≡ [] → HasNoted book input editors editor noted
 none_noted book input editors editor noted of number none put = record {
   book_is = of;
-  number = number ∙ ap (λ (ls : List PutLine). length (lines_of editor.session ls)) (sym none);
-  put = subst (λ (ls : List PutLine). ArePutBy input editors (lines_of editor.session ls) editor.put) (sym none) (subst (λ (rs : List Request). ArePutBy input editors [] rs) (sym put) tt);
+  number = number ∙ ap (λ (ls : List PutLine). length (lines_of_session editor.session ls)) (sym none);
+  put = subst (λ (ls : List PutLine). ArePutBy input editors (lines_of_session editor.session ls) editor.put) (sym none) (subst (λ (rs : List Request). ArePutBy input editors [] rs) (sym put) tt);
 }
 
 -- ---- a message
@@ -90,11 +90,11 @@ last_there [] line = refl
 last_there (l ∷ lines) line = last_there lines line
 
 -- a line that was added is the next one
-pub next_there : (old : Listed) (line : PutLine) (new after : Listed) (number : ℕ) → AddsLine old line new → number ≡ length (lines_of line.session old.lines) → after ≡ new → slice_get (lines_of line.session after.lines) number ≡ Some line
+pub next_there : (old : Listed) (line : PutLine) (new after : Listed) (number : ℕ) → AddsLine old line new → number ≡ length (lines_of_session line.session old.lines) → after ≡ new → slice_get (lines_of_session line.session after.lines) number ≡ Some line
 next_there old line new after number adds many same =
-    subst (λ (l : Listed). slice_get (lines_of line.session l.lines) number ≡ Some line) (sym same)
-    (subst (λ (n : ℕ). slice_get (lines_of line.session new.lines) n ≡ Some line) (sym many)
-    (subst (λ (ls : List PutLine). slice_get ls (length (lines_of line.session old.lines)) ≡ Some line) (sym adds.added) (last_there (lines_of line.session old.lines) line)))
+    subst (λ (l : Listed). slice_get (lines_of_session line.session l.lines) number ≡ Some line) (sym same)
+    (subst (λ (n : ℕ). slice_get (lines_of_session line.session new.lines) n ≡ Some line) (sym many)
+    (subst (λ (ls : List PutLine). slice_get ls (length (lines_of_session line.session old.lines)) ≡ Some line) (sym adds.added) (last_there (lines_of_session line.session old.lines) line)))
 
 -- ---- one editor
 

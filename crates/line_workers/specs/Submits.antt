@@ -3,7 +3,7 @@ use Rattle.std.specs.Prelude.{◌≡◌, ◌+◌, ◌++◌, ◌∷◌, [], ℕ, 
 use Rattle.logbook.specs.Pages.{Book}
 use Rattle.requests.specs.declared.request.Request.{Request}
 use Rattle.put_lines.specs.declared.put_line.PutLine.{PutLine}
-use Rattle.put_lines.specs.Lines.{AddsLine, lines_of}
+use Rattle.put_lines.specs.Lines.{AddsLine, lines_of_session}
 use Rattle.intake.specs.Editors.{Editing}
 use Rattle.intake.specs.Ends.{Taking}
 use Rattle.service_actors.specs.Edited.{IsSameEditor}
@@ -42,9 +42,9 @@ NotesAnswer session place answer old new = (new.number ≡ old.number) × (new.l
 -- What an editor noted in this book: of each request that it put the line, and how many there are.
 pub record HasNoted (book : Book) (input : Input) (editors : ℕ) (editor : Editing) (noted : Noted) : Type 0 where
   pub book_is : noted.lines.book ≡ book
-  pub number : noted.number ≡ length (lines_of editor.session noted.lines.lines)
+  pub number : noted.number ≡ length (lines_of_session editor.session noted.lines.lines)
   -- each request was put by the line that was noted
-  pub put : ArePutBy input editors (lines_of editor.session noted.lines.lines) editor.put
+  pub put : ArePutBy input editors (lines_of_session editor.session noted.lines.lines) editor.put
 
 -- An editor comes back from its thread.
 pub record ComesBack (book : Book) (input : Input) (editors : ℕ) (given back : Editing) (noted : Noted) : Type 0 where

@@ -1,8 +1,8 @@
 // An editor's thread.
 ghost use Rattle.std.specs.Prelude.{◌≡◌, ◌≢◌, [], IfSome, length};
-ghost use Rattle.put_lines.specs.Lines.{lines_of};
+ghost use Rattle.put_lines.specs.Lines.{lines_of_session};
 ghost use Rattle.service_actors.specs.Edited.{IsSameEditor};
-ghost use Rattle.live_lines.specs.Answers.{Fits, generation_gone};
+ghost use Rattle.live_lines.specs.Answers.{FitsAsked, generation_gone};
 ghost use Rattle.line_exchange.specs.OneList.{IsSaidBy};
 ghost use Rattle.line_workers.specs.Submits.{ComesBack, HasPutFor, NotesAnswer};
 
@@ -33,7 +33,7 @@ fn edited<J: Stream, B: BoardName, R: Wait>(
     ticket: Option<u64>,
     change: Change,
 ) -> Option<(SessionEditor<B>, Answer)>
-    ensures fits { IfSome result (λ r. Fits (Asked.Edit session ticket change) r.1) }
+    ensures fits { IfSome result (λ r. FitsAsked (Asked.Edit session ticket change) r.1) }
     ensures said { IfSome result (λ r. ∥ IsSaidBy r.0.editor.known (Asked.Edit session ticket change) r.1 ∥₁) }
     ensures same { IfSome result (λ r. IsSameEditor editor.editor r.0.editor) }
     ensures put { IfSome result (λ r. HasPutFor (Asked.Edit session ticket change) r.1 editor.editor r.0.editor) }
@@ -79,7 +79,7 @@ fn answer_of<J: Stream, B: BoardName, R: Wait>(
     editor: SessionEditor<B>,
     asked: Asked,
 ) -> Option<(SessionEditor<B>, Answer)>
-    ensures fits { IfSome result (λ r. Fits asked r.1) }
+    ensures fits { IfSome result (λ r. FitsAsked asked r.1) }
     ensures said { IfSome result (λ r. ∥ IsSaidBy r.0.editor.known asked r.1 ∥₁) }
     ensures same { IfSome result (λ r. IsSameEditor editor.editor r.0.editor) }
     ensures put { IfSome result (λ r. HasPutFor asked r.1 editor.editor r.0.editor) }
@@ -112,7 +112,7 @@ fn noted_with<J: Stream, B: BoardName, R: Wait>(
     answer: &Answer,
 ) -> Option<(Option<NotedLine<J>>, Noted)>
     requires book { noted.now.lines.book ≡ J.book }
-    requires number { noted.now.number ≡ length (lines_of session noted.now.lines.lines) }
+    requires number { noted.now.number ≡ length (lines_of_session session noted.now.lines.lines) }
     ensures { IfSome result (λ r. NotesAnswer session place answer.now noted.now r.1) }
 {
     match answer {
@@ -153,9 +153,9 @@ fn answered<J: Stream, B: BoardName, R: Wait>(
     ask: Ask<J>,
 ) -> Option<(SessionEditor<B>, Noted, Answered<J, B>)>
     requires book { noted.now.lines.book ≡ J.book }
-    requires number { noted.now.number ≡ length (lines_of editor.editor.session noted.now.lines.lines) }
+    requires number { noted.now.number ≡ length (lines_of_session editor.editor.session noted.now.lines.lines) }
     ensures same { IfSome result (λ r. IsSameEditor editor.editor r.0.editor) }
-    ensures fits { IfSome result (λ r. Fits ask.asked r.2.answer) }
+    ensures fits { IfSome result (λ r. FitsAsked ask.asked r.2.answer) }
     ensures put { IfSome result (λ r. HasPutFor ask.asked r.2.answer editor.editor r.0.editor) }
     ensures noted { IfSome result (λ r. NotesAnswer editor.editor.session ask.place r.2.answer noted.now r.1) }
 {

@@ -10,7 +10,7 @@ use Rattle.packet_ways.specs.declared.carried.Carried.{Carried}
 use Rattle.packet_ways.specs.declared.carried.Carried.TheVariants.{Along, Unreachable}
 use Rattle.packet_ways.specs.declared.carried.Carried.TheVariants as ways
 use Rattle.packet_bytes.specs.Texts.{address_line, move_text, packet_line, unread_text}
-use Rattle.new_devices.specs.Events.{refused_text as no_backup_text}
+use Rattle.new_devices.specs.Events.{backup_refused_text as no_backup_text}
 use Rattle.live_lines.specs.Metrics.{metrics_text}
 use Rattle.live_lines.specs.declared.asked.Asked.{Asked}
 use Rattle.live_lines.specs.declared.asked.Asked.TheVariants as asks
@@ -39,32 +39,32 @@ abbrev pub generation_gone : Answer
 generation_gone = NotCarried refused.GenerationGone
 
 -- the answer is one to what is asked for; a line that names no ticket gets a new one, so only a verdict is of it
-abbrev pub Fits : Asked → Answer → Type 0
-Fits (asks.Edit session ticket change) (Settled mark) = (mark.session ≡ session) × IsOfTicket ticket mark.ticket
-Fits (asks.Edit session ticket change) (AlreadyIn s t) = (s ≡ session) × (ticket ≡ Some t)
-Fits (asks.Edit session ticket change) (RefusedBefore s t op code) = (s ≡ session) × (ticket ≡ Some t)
-Fits (asks.Edit session ticket change) (OldTicket s t) = (s ≡ session) × (ticket ≡ Some t)
-Fits (asks.Resume session) (Resumed s t) = s ≡ session
-Fits (asks.Route from to) (Way way) = Leads from to way
-Fits (asks.Address node) (Told address) = address.node ≡ node
-Fits (asks.Address node) NoNode = Unit {0}
-Fits (asks.Launch from to) (Sent packet) = Unit {0}
-Fits (asks.Launch from to) (NotCarried why) = why ≢ refused.BoardShut
-Fits (asks.Hop at packet) (Moved moved) = Unit {0}
-Fits (asks.Hop at packet) (NotCarried why) = why ≢ refused.BoardShut
-Fits asks.State (State count generation queue) = Unit {0}
-Fits asks.Wait (Waited generation) = Unit {0}
-Fits (asks.Tables folder) (Tables generation tables bytes greatest) = Unit {0}
-Fits (asks.Tables folder) (NotCarried why) = why ≡ refused.GenerationGone
-Fits (asks.Tables folder) TablesFailed = Unit {0}
-Fits (asks.Backup file) (BackedUp count) = Unit {0}
-Fits (asks.Backup file) (NoBackup why) = Unit {0}
-Fits asks.Metrics (Metrics metrics) = Unit {0}
-Fits (asks.Unread why) (Unread told) = told ≡ why
-Fits asks.NoSession NoSession = Unit {0}
-Fits asks.NotOps NotOps = Unit {0}
-Fits asks.NotUnderstood NotUnderstood = Unit {0}
-Fits asked answer = ⊥
+abbrev pub FitsAsked : Asked → Answer → Type 0
+FitsAsked (asks.Edit session ticket change) (Settled mark) = (mark.session ≡ session) × IsOfTicket ticket mark.ticket
+FitsAsked (asks.Edit session ticket change) (AlreadyIn s t) = (s ≡ session) × (ticket ≡ Some t)
+FitsAsked (asks.Edit session ticket change) (RefusedBefore s t op code) = (s ≡ session) × (ticket ≡ Some t)
+FitsAsked (asks.Edit session ticket change) (OldTicket s t) = (s ≡ session) × (ticket ≡ Some t)
+FitsAsked (asks.Resume session) (Resumed s t) = s ≡ session
+FitsAsked (asks.Route from to) (Way way) = Leads from to way
+FitsAsked (asks.Address node) (Told address) = address.node ≡ node
+FitsAsked (asks.Address node) NoNode = Unit {0}
+FitsAsked (asks.Launch from to) (Sent packet) = Unit {0}
+FitsAsked (asks.Launch from to) (NotCarried why) = why ≢ refused.BoardShut
+FitsAsked (asks.Hop at packet) (Moved moved) = Unit {0}
+FitsAsked (asks.Hop at packet) (NotCarried why) = why ≢ refused.BoardShut
+FitsAsked asks.State (State count generation queue) = Unit {0}
+FitsAsked asks.Wait (Waited generation) = Unit {0}
+FitsAsked (asks.Tables folder) (Tables generation tables bytes greatest) = Unit {0}
+FitsAsked (asks.Tables folder) (NotCarried why) = why ≡ refused.GenerationGone
+FitsAsked (asks.Tables folder) TablesFailed = Unit {0}
+FitsAsked (asks.Backup file) (BackedUp count) = Unit {0}
+FitsAsked (asks.Backup file) (NoBackup why) = Unit {0}
+FitsAsked asks.Metrics (Metrics metrics) = Unit {0}
+FitsAsked (asks.Unread why) (Unread told) = told ≡ why
+FitsAsked asks.NoSession NoSession = Unit {0}
+FitsAsked asks.NotOps NotOps = Unit {0}
+FitsAsked asks.NotUnderstood NotUnderstood = Unit {0}
+FitsAsked asked answer = ⊥
 
 -- ---- texts
 

@@ -9,7 +9,7 @@ use mathlib.Core.Logic.{∥∥₁_elim}
 use mathlib.Core.HLevel.{⊥_prop}
 use mathlib.Core.List.{IsPrefix}
 use Rattle.logbook.specs.Pages.{Book}
-use Rattle.put_lines.specs.Lines.{lines_of}
+use Rattle.put_lines.specs.Lines.{lines_of_session}
 use Rattle.requests.specs.Requests.{asked_by}
 use Rattle.requests.specs.declared.request.Request.{Request}
 use Rattle.layout_2.specs.State.{State}
@@ -175,7 +175,7 @@ all_sessions book input editors first now joined none keeps all are session = by
         let made = keeps.made in
         let empty : of session (got_of now) ≡ [] = keeps.editors begun session (omega (arith, past, made, all)) in
         subst (λ (rs : List Request). AreAllNoted input editors joined.puts joined.lines.lines session rs) (sym empty)
-        (record { noted = []; put = tt; many = are.later session past; first = (lines_of session joined.lines.lines, refl) })
+        (record { noted = []; put = tt; many = are.later session past; first = (lines_of_session session joined.lines.lines, refl) })
 
 -- what holds where there is no error
 pub ok_holds : {T E : Type 0} → (r : Result T E) (P : Type 0) → is_ok r ≡ true → OnOk r P → P

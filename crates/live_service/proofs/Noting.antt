@@ -11,7 +11,7 @@ use Rattle.logbook.specs.Pages.{Book}
 use Rattle.requests.specs.Tickets.{last_of}
 use Rattle.requests.specs.declared.request.Request.{Request}
 use Rattle.generations.proofs.Prefixes.{prefix_trans}
-use Rattle.put_lines.specs.Lines.{Listed, lines_of}
+use Rattle.put_lines.specs.Lines.{Listed, lines_of_session}
 use Rattle.put_lines.proofs.Appending.{lines_on}
 use Rattle.intake.specs.Editors.{Editing}
 use Rattle.intake.specs.Turns.{of}
@@ -48,8 +48,8 @@ joined_more book input editors got all e noted old new same are has put next wit
     -- the session of the editor
     own : AreAllNoted input editors new.puts new.lines.lines e.session (of e.session got)
     own = record {
-      noted = lines_of e.session noted.lines.lines;
-      put = subst (λ (rs : List Request). ArePutBy input editors (lines_of e.session noted.lines.lines) rs) (put ∙ ap (of e.session) (sym same)) has.put;
+      noted = lines_of_session e.session noted.lines.lines;
+      put = subst (λ (rs : List Request). ArePutBy input editors (lines_of_session e.session noted.lines.lines) rs) (put ∙ ap (of e.session) (sym same)) has.put;
       many = ap (λ (ps : List ℕ). last_of ps e.session) puts ∙ (get_or-set_same old.puts e.session noted.number 0 within ∙ has.number);
       first = lines_on e.session noted.lines.lines new.lines.lines covers;
     }
@@ -62,7 +62,7 @@ joined_more book input editors got all e noted old new same are has put next wit
           noted = was.noted;
           put = was.put;
           many = ap (λ (ps : List ℕ). last_of ps session) puts ∙ (get_or-set_other old.puts e.session session noted.number 0 (λ here. omega (arith, here, before)) ∙ was.many);
-          first = prefix_trans was.noted (lines_of session old.lines.lines) (lines_of session new.lines.lines) was.first (lines_on session old.lines.lines new.lines.lines on);
+          first = prefix_trans was.noted (lines_of_session session old.lines.lines) (lines_of_session session new.lines.lines) was.first (lines_on session old.lines.lines new.lines.lines on);
         }
     by session less false test =
         let past : e.session ≤ session = ltb-false session e.session test in

@@ -46,7 +46,7 @@ use Rattle.line_exchange.specs.Tallies.{AreDropped}
 use Rattle.line_workers.specs.Submits.{ArePutBy}
 use Rattle.logbook.specs.Pages.{Book}
 use Rattle.put_lines.specs.declared.put_line.PutLine.{PutLine}
-use Rattle.put_lines.specs.Lines.{lines_of}
+use Rattle.put_lines.specs.Lines.{lines_of_session}
 use Rattle.put_lines.proofs.Appending.{lines_on}
 use Rattle.requests.specs.Tickets.{last_of}
 use Rattle.generations.proofs.Prefixes.{prefix_shorter, prefix_trans, prefix_whole}
@@ -124,14 +124,14 @@ same_first xs ys zs one two long = prefix_whole xs ys (prefix_shorter xs ys zs o
 
 -- the lines of verdicts are those that were noted
 put_by_told : (input : Input) (editors : ℕ) (tally : Tally) (ending : Ending) (answers : List Answer) (session : ℕ) (requests : List Request) → AreNotedFirst tally.puts tally.lines.lines answers → AreSamePuts tally ending
-    → AreAllNoted input editors ending.puts ending.lines.lines session requests → ArePutBy input editors (lines_of session (puts_in answers)) requests
+    → AreAllNoted input editors ending.puts ending.lines.lines session requests → ArePutBy input editors (lines_of_session session (puts_in answers)) requests
 put_by_told input editors tally ending answers session requests told same noted =
-    let all = lines_of session same.all in
-    let one : IsPrefix (lines_of session (puts_in answers)) all =
-    prefix_trans (lines_of session (puts_in answers)) (lines_of session tally.lines.lines) all (told.first session) (lines_on session tally.lines.lines same.all same.told) in
-    let two : IsPrefix noted.noted all = prefix_trans noted.noted (lines_of session ending.lines.lines) all noted.first (lines_on session ending.lines.lines same.all same.noted) in
-    let long : length (lines_of session (puts_in answers)) ≡ length noted.noted = sym (told.counted session) ∙ (ap (λ (ps : List ℕ). last_of ps session) (sym same.puts) ∙ noted.many) in
-    subst (λ (ls : List PutLine). ArePutBy input editors ls requests) (sym (same_first (lines_of session (puts_in answers)) noted.noted all one two long)) noted.put
+    let all = lines_of_session session same.all in
+    let one : IsPrefix (lines_of_session session (puts_in answers)) all =
+    prefix_trans (lines_of_session session (puts_in answers)) (lines_of_session session tally.lines.lines) all (told.first session) (lines_on session tally.lines.lines same.all same.told) in
+    let two : IsPrefix noted.noted all = prefix_trans noted.noted (lines_of_session session ending.lines.lines) all noted.first (lines_on session ending.lines.lines same.all same.noted) in
+    let long : length (lines_of_session session (puts_in answers)) ≡ length noted.noted = sym (told.counted session) ∙ (ap (λ (ps : List ℕ). last_of ps session) (sym same.puts) ∙ noted.many) in
+    subst (λ (ls : List PutLine). ArePutBy input editors ls requests) (sym (same_first (lines_of_session session (puts_in answers)) noted.noted all one two long)) noted.put
 
 -- ---- a whole list
 

@@ -5,7 +5,7 @@ use Rattle.logbook.specs.Pages.{Book}
 use Rattle.requests.specs.Tickets.{last_of}
 use Rattle.requests.specs.declared.request.Request.{Request}
 use Rattle.put_lines.specs.declared.put_line.PutLine.{PutLine}
-use Rattle.put_lines.specs.Lines.{lines_of}
+use Rattle.put_lines.specs.Lines.{lines_of_session}
 use Rattle.intake.specs.Turns.{of}
 use Rattle.line_exchange.specs.Inputs.{Input}
 use Rattle.line_exchange.specs.declared.tally.Tally.{Tally}
@@ -18,7 +18,7 @@ pub record AreAllNoted (input : Input) (editors : ℕ) (puts : List ℕ) (lines 
   pub noted : List PutLine
   pub put : ArePutBy input editors noted requests
   pub many : last_of puts session ≡ length noted
-  pub first : IsPrefix noted (lines_of session lines)
+  pub first : IsPrefix noted (lines_of_session session lines)
 
 -- The editors of the first sessions came back: all that they put was taken and noted. Of later sessions nothing was noted.
 pub record AreJoined (book : Book) (input : Input) (editors : ℕ) (got : List Request) (joined : Joined) : Type 0 where

@@ -3,7 +3,7 @@ use Rattle.std.specs.Prelude.{◌≡◌, ℕ, IfOk, IsSomeAnd, IsTrue, List, Opt
 use Rattle.std.specs.Io.KnownBytes.{Appends}
 use Rattle.disk_trait.specs.declared.disk.Disk.{Ghosts}
 use Rattle.disk_trait.specs.Disk.{DiskView, LeavesOnly}
-use Rattle.put_lines.specs.Lines.{lines_of as session_lines}
+use Rattle.put_lines.specs.Lines.{lines_of_session as session_lines}
 use Rattle.requests.specs.declared.request.Request.{Request}
 use Rattle.layout_2.specs.State.{State}
 use Rattle.layout_2.specs.Standing.{KeepsThrough, StandsFor}

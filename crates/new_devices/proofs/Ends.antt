@@ -3,13 +3,13 @@ use Rattle.std.proofs.Common.{◌≡◌, inl, inr, ◌++◌, ◌∷◌, [], ℕ,
 use Rattle.std.specs.Prelude.{◌⊎◌, IfErr}
 use Rattle.disk_trait.specs.declared.disk.Disk.{Ghosts}
 use Rattle.checkpoint.specs.declared.store.Store.{Store}
-use Rattle.new_devices.specs.Events.{Event, IsUnmade, LetGo, Made}
+use Rattle.new_devices.specs.Events.{FileEvent, IsUnmade, LetGo, Made}
 use Rattle.new_devices.specs.Backups.{IsBackupEnd, IsWritten}
 use Rattle.new_devices.specs.declared.refused.BackupRefused.{BackupRefused}
 use Rattle.new_devices.specs.declared.refused.BackupRefused.TheVariants.{FileExists, Unusable, Memory, Device}
 
 -- no device was made
-pub unmade_end : {D N : Type 0} {V : _} → (model : Ghosts N) (store : Store D V) (path : List ℕ) (old new : List (Event N)) (why : BackupRefused) → IsUnmade why → new ≡ old → IsBackupEnd model store path old new (Err why)
+pub unmade_end : {D N : Type 0} {V : _} → (model : Ghosts N) (store : Store D V) (path : List ℕ) (old new : List (FileEvent N)) (why : BackupRefused) → IsUnmade why → new ≡ old → IsBackupEnd model store path old new (Err why)
 unmade_end model store path old new FileExists is same = same
 unmade_end model store path old new Unusable is same = same
 unmade_end model store path old new Memory (inl is) same = absurd cc
@@ -18,7 +18,7 @@ unmade_end model store path old new Device (inl is) same = absurd cc
 unmade_end model store path old new Device (inr is) same = absurd cc
 
 -- one was made
-pub made_end : {D N : Type 0} {V : _} → (model : Ghosts N) (store : Store D V) (path : List ℕ) (old mid new : List (Event N)) (before after : N) (end : _) → mid ≡ old ++ Made path before ∷ [] → new ≡ mid ++ LetGo after ∷ []
+pub made_end : {D N : Type 0} {V : _} → (model : Ghosts N) (store : Store D V) (path : List ℕ) (old mid new : List (FileEvent N)) (before after : N) (end : _) → mid ≡ old ++ Made path before ∷ [] → new ≡ mid ++ LetGo after ∷ []
     → IsWritten model store before after end → IfErr end (λ why. (why ≡ Memory) ⊎ (why ≡ Device)) → IsBackupEnd model store path old new end
 made_end {D} {N} {V} model store path old mid new before after end made gone written named = of end written named
   where

@@ -6,7 +6,7 @@ use Rattle.checkpoint.specs.declared.store.Store.{Store}
 use Rattle.checkpoint.specs.StoreWords.{is_down, state_of, view_of}
 use Rattle.checkpoint.specs.Whole.{StandsForNoneOr}
 use Rattle.checkpoint.specs.Written.{IsNowWritten}
-use Rattle.new_devices.specs.Events.{Event, LetGo, Made}
+use Rattle.new_devices.specs.Events.{FileEvent, LetGo, Made}
 use Rattle.new_devices.specs.declared.refused.BackupRefused.{BackupRefused}
 use Rattle.new_devices.specs.declared.refused.BackupRefused.TheVariants.{FileExists, Unusable, Memory, Device}
 
@@ -22,14 +22,14 @@ pub record IsWritten {D N : Type 0} {V : _} (model : Ghosts N) (store : Store D 
   pub device : IsErrOf end Device → (model.view before).failures < (model.view after).failures
 
 -- One device was made by this path and let go, and nothing else was done at the place: a store was written to it.
-pub record IsBackedUp {D N : Type 0} {V : _} (model : Ghosts N) (store : Store D V) (path : List ℕ) (old new : List (Event N)) (end : Result (Unit {0}) BackupRefused) : Type 0 where
+pub record IsBackedUp {D N : Type 0} {V : _} (model : Ghosts N) (store : Store D V) (path : List ℕ) (old new : List (FileEvent N)) (end : Result (Unit {0}) BackupRefused) : Type 0 where
   pub before : N
   pub after : N
   pub did : new ≡ old ++ Made path before ∷ LetGo after ∷ []
   pub written : IsWritten model store before after end
 
 -- What a backup did at a place of new devices that ended so: nothing where no device could be made.
-abbrev pub IsBackupEnd : {D N : Type 0} {V : _} → Ghosts N → Store D V → List ℕ → List (Event N) → List (Event N) → Result (Unit {0}) BackupRefused → Type 0
+abbrev pub IsBackupEnd : {D N : Type 0} {V : _} → Ghosts N → Store D V → List ℕ → List (FileEvent N) → List (FileEvent N) → Result (Unit {0}) BackupRefused → Type 0
 IsBackupEnd model store path old new (Err FileExists) = new ≡ old
 IsBackupEnd model store path old new (Err Unusable) = new ≡ old
 IsBackupEnd model store path old new end = IsBackedUp model store path old new end

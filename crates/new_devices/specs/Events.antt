@@ -9,17 +9,17 @@ use Rattle.new_devices.specs.declared.refused.BackupRefused.{BackupRefused}
 use Rattle.new_devices.specs.declared.refused.BackupRefused.TheVariants.{FileExists, Unusable, Memory, Device}
 
 -- a device was made by a path, and this is what it was then; or one was let go, and this is what that was then
-pub data Event (D : Type 0) : Type 0 where
-  Made : List ℕ → D → Event D
-  LetGo : D → Event D
+pub data FileEvent (D : Type 0) : Type 0 where
+  Made : List ℕ → D → FileEvent D
+  LetGo : D → FileEvent D
 
 -- an entry of a list for contracts
-abbrev pub event_of : {D : Type 0} → Done D → Event D
+abbrev pub event_of : {D : Type 0} → Done D → FileEvent D
 event_of (done.Made path device) = Made path.items device.value
 event_of (done.LetGo device) = LetGo device.value
 
 -- all that is on it
-abbrev pub events_in : {D : Type 0} → MakeLog D → List (Event D)
+abbrev pub events_in : {D : Type 0} → MakeLog D → List (FileEvent D)
 events_in log = map event_of log.done.items
 
 -- a disk that keeps the model has so many zeros, whatever a crash leaves of it
@@ -31,8 +31,8 @@ abbrev pub IsUnmade : BackupRefused → Type 0
 IsUnmade refused = (refused ≡ FileExists) ⊎ (refused ≡ Unusable)
 
 -- what is told of a backup that isn't there
-abbrev pub refused_text : BackupRefused → List ℕ
-refused_text FileExists = codes "file exists"
-refused_text Unusable = codes "device file cannot be used"
-refused_text Memory = codes "out of memory"
-refused_text Device = codes "device failed"
+abbrev pub backup_refused_text : BackupRefused → List ℕ
+backup_refused_text FileExists = codes "file exists"
+backup_refused_text Unusable = codes "device file cannot be used"
+backup_refused_text Memory = codes "out of memory"
+backup_refused_text Device = codes "device failed"

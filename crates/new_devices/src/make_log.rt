@@ -1,6 +1,6 @@
 //! A list of what is done at a place of new devices, which contracts alone read.
 ghost use Rattle.std.specs.Prelude.{◌≡◌, ◌∷◌, ◌++◌, [], List};
-ghost use Rattle.new_devices.specs.Events.{Event, LetGo, Made, events_in};
+ghost use Rattle.new_devices.specs.Events.{FileEvent, LetGo, Made, events_in};
 
 use disk_trait::Log;
 use std::snapshot::Snapshot;

@@ -11,12 +11,12 @@ use std::rt::Files;
 
 /// Where new devices are made. Whoever makes one does it here, and has no other way to one.
 pub trait NewDevices {
-    ghost use Rattle.new_devices.specs.Events.{Event, IsBlank, IsUnmade, LetGo, Made};
+    ghost use Rattle.new_devices.specs.Events.{FileEvent, IsBlank, IsUnmade, LetGo, Made};
 
     type Device: Disk + Drop;
 
     /// What was done here, in order.
-    ghost events: { Self → List (Event Self.Device) };
+    ghost events: { Self → List (FileEvent Self.Device) };
 
     /// Makes a device of so many zeros where nothing stands by the path.
     fn make(&mut self, path: &str, len: usize) -> Result<Self::Device, BackupRefused>

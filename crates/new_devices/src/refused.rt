@@ -1,6 +1,6 @@
 //! Why there is no backup.
 ghost use Rattle.std.specs.Prelude.{◌≡◌};
-ghost use Rattle.new_devices.specs.Events.{refused_text};
+ghost use Rattle.new_devices.specs.Events.{backup_refused_text};
 
 use thiserror::Error;
 
@@ -21,7 +21,7 @@ pub enum BackupRefused {
 impl BackupRefused {
     /// What is told of it.
     pub fn text(&self) -> &'static str
-        ensures { result.now ≡ refused_text self.now }
+        ensures { result.now ≡ backup_refused_text self.now }
     {
         match self {
             BackupRefused::FileExists => "file exists",

@@ -9,7 +9,7 @@ use mathlib.Core.List.{IsPrefix}
 use prog.Atomic.{either}
 use Rattle.logbook.specs.Pages.{Book, Cell, Named, cell, keeps, no_nib, step, Moves, Goes}
 use Rattle.put_lines.specs.declared.put_line.PutLine.{PutLine}
-use Rattle.put_lines.specs.Lines.{lines_of}
+use Rattle.put_lines.specs.Lines.{lines_of_session}
 use Rattle.put_lines.specs.Rules.{Appends, IsCounted, word_of, words_of}
 
 abbrev pub shown : List PutLine → List PutLine
@@ -45,76 +45,76 @@ word_at book (suc n) k word is =
 -- ---- lines of a session
 
 -- those of a beginning are a beginning of those
-pub lines_on : (session : ℕ) (xs ys : List PutLine) → IsPrefix xs ys → IsPrefix (lines_of session xs) (lines_of session ys)
-lines_on session xs ys p = (lines_of session p.0, sym (filter-append (λ (l : PutLine). l.session == session) xs p.0) ∙ ap (lines_of session) p.1)
+pub lines_on : (session : ℕ) (xs ys : List PutLine) → IsPrefix xs ys → IsPrefix (lines_of_session session xs) (lines_of_session session ys)
+lines_on session xs ys p = (lines_of_session session p.0, sym (filter-append (λ (l : PutLine). l.session == session) xs p.0) ∙ ap (lines_of_session session) p.1)
 
 -- a beginning with as many has all
 none_more : (xs ys : List PutLine) → length (xs ++ ys) ≡ length xs → ys ≡ []
 none_more xs [] same = refl
 none_more xs (y ∷ ys) same = absurd (omega (arith, length-append xs (y ∷ ys), same))
 
-all_seen : (session : ℕ) (v log : List PutLine) → IsPrefix v log → length (lines_of session log) ≡ length (lines_of session v) → lines_of session log ≡ lines_of session v
+all_seen : (session : ℕ) (v log : List PutLine) → IsPrefix v log → length (lines_of_session session log) ≡ length (lines_of_session session v) → lines_of_session session log ≡ lines_of_session session v
 all_seen session v log p same =
     let on = lines_on session v log p in
-    let none : on.0 ≡ [] = none_more (lines_of session v) on.0 (ap length on.1 ∙ same) in
-    sym on.1 ∙ (ap (λ l. lines_of session v ++ l) none ∙ append-nil (lines_of session v))
+    let none : on.0 ≡ [] = none_more (lines_of_session session v) on.0 (ap length on.1 ∙ same) in
+    sym on.1 ∙ (ap (λ l. lines_of_session session v ++ l) none ∙ append-nil (lines_of_session session v))
 
 -- with a line more, its session has one more
-pub own_more : (log : List PutLine) (e : PutLine) → lines_of e.session (log ++ e ∷ []) ≡ lines_of e.session log ++ e ∷ []
+pub own_more : (log : List PutLine) (e : PutLine) → lines_of_session e.session (log ++ e ∷ []) ≡ lines_of_session e.session log ++ e ∷ []
 own_more log e =
     filter-append (λ (l : PutLine). l.session == e.session) log (e ∷ [])
-    ∙ ap (λ (b : Bool). lines_of e.session log ++ cond b (e ∷ []) []) (eq-eqb e.session e.session refl)
+    ∙ ap (λ (b : Bool). lines_of_session e.session log ++ cond b (e ∷ []) []) (eq-eqb e.session e.session refl)
 
 -- .. and another session as many as before
-pub other_same : (session : ℕ) (log : List PutLine) (e : PutLine) → (e.session ≡ session → ⊥) → lines_of session (log ++ e ∷ []) ≡ lines_of session log
+pub other_same : (session : ℕ) (log : List PutLine) (e : PutLine) → (e.session ≡ session → ⊥) → lines_of_session session (log ++ e ∷ []) ≡ lines_of_session session log
 other_same session log e other =
     filter-append (λ (l : PutLine). l.session == session) log (e ∷ [])
-    ∙ (ap (λ (b : Bool). lines_of session log ++ cond b (e ∷ []) []) (ne_eqb e.session session other) ∙ append-nil (lines_of session log))
+    ∙ (ap (λ (b : Bool). lines_of_session session log ++ cond b (e ∷ []) []) (ne_eqb e.session session other) ∙ append-nil (lines_of_session session log))
 
 -- ---- the exchange
 
-counted_more : (cs : List Cell) (log : List PutLine) (e : PutLine) (old : ℕ) → IsCounted cs log → length (lines_of e.session log) ≡ old → e.session < 64 → IsCounted (slice_set cs e.session (old + 1, true)) (log ++ e ∷ [])
+counted_more : (cs : List Cell) (log : List PutLine) (e : PutLine) (old : ℕ) → IsCounted cs log → length (lines_of_session e.session log) ≡ old → e.session < 64 → IsCounted (slice_set cs e.session (old + 1, true)) (log ++ e ∷ [])
 counted_more cs log e old kept here within = record {
   wide = length-set cs e.session (old + 1, true) ∙ kept.wide;
   counts = λ session less. ⊎_elim (λ same. own session less same.1) (λ other. another session less other.1) (eqb_tells e.session session);
 }
   where
-    longer : length (lines_of e.session (log ++ e ∷ [])) ≡ old + 1
-    longer = ap length (own_more log e) ∙ (length-append (lines_of e.session log) (e ∷ []) ∙ ap (λ (n : ℕ). n + 1) here)
+    longer : length (lines_of_session e.session (log ++ e ∷ [])) ≡ old + 1
+    longer = ap length (own_more log e) ∙ (length-append (lines_of_session e.session log) (e ∷ []) ∙ ap (λ (n : ℕ). n + 1) here)
 
-    own : (session : ℕ) → session < 64 → e.session ≡ session → cell (slice_set cs e.session (old + 1, true)) session ≡ (length (lines_of session (log ++ e ∷ [])), true)
+    own : (session : ℕ) → session < 64 → e.session ≡ session → cell (slice_set cs e.session (old + 1, true)) session ≡ (length (lines_of_session session (log ++ e ∷ [])), true)
     own session less same =
-        subst (λ (s : ℕ). cell (slice_set cs e.session (old + 1, true)) s ≡ (length (lines_of s (log ++ e ∷ [])), true)) same
+        subst (λ (s : ℕ). cell (slice_set cs e.session (old + 1, true)) s ≡ (length (lines_of_session s (log ++ e ∷ [])), true)) same
         (get_or-set_same cs e.session (old + 1, true) (0, false) (let w = kept.wide in omega (arith, w, within)) ∙ ap (λ (n : ℕ). (n, true)) (sym longer))
 
-    another : (session : ℕ) → session < 64 → (e.session ≡ session → ⊥) → cell (slice_set cs e.session (old + 1, true)) session ≡ (length (lines_of session (log ++ e ∷ [])), true)
+    another : (session : ℕ) → session < 64 → (e.session ≡ session → ⊥) → cell (slice_set cs e.session (old + 1, true)) session ≡ (length (lines_of_session session (log ++ e ∷ [])), true)
     another session less other =
         get_or-set_other cs e.session session (old + 1, true) (0, false) (λ back. other (sym back))
         ∙ (kept.counts session less ∙ ap (λ (l : List PutLine). (length l, true)) (sym (other_same session log e other)))
 
-counted_same : (cs : List Cell) (log : List PutLine) (session : ℕ) → IsCounted cs log → session < 64 → IsCounted (slice_set cs session (length (lines_of session log), true)) (log ++ [])
+counted_same : (cs : List Cell) (log : List PutLine) (session : ℕ) → IsCounted cs log → session < 64 → IsCounted (slice_set cs session (length (lines_of_session session log), true)) (log ++ [])
 counted_same cs log session kept within =
-    subst (λ (l : List PutLine). IsCounted (slice_set cs session (length (lines_of session log), true)) l) (sym (append-nil log))
+    subst (λ (l : List PutLine). IsCounted (slice_set cs session (length (lines_of_session session log), true)) l) (sym (append-nil log))
     (subst (λ (c : List Cell). IsCounted c log) (sym (ap (λ (x : Cell). slice_set cs session x) (sym (kept.counts session within)) ∙ set-get_or cs session (0, false))) kept)
 
-adds_goes : (cs : List Cell) (log v : List PutLine) (e : PutLine) (old : ℕ) → IsCounted cs log → length (lines_of e.session v) ≡ old → e.session < 64 → IsPrefix v log
-    → (b : Bool) → (length (lines_of e.session log) == old) ≡ b
+adds_goes : (cs : List Cell) (log v : List PutLine) (e : PutLine) (old : ℕ) → IsCounted cs log → length (lines_of_session e.session v) ≡ old → e.session < 64 → IsPrefix v log
+    → (b : Bool) → (length (lines_of_session e.session log) == old) ≡ b
     → Goes IsCounted shown moved e.session (v, (no_nib, None)) (λ n. either (n == old) (old + 1) n) (Appends (step e.session old (old + 1) e) (v, (no_nib, None))) cs log
 adds_goes cs log v e old kept len within pre true is =
-    let n = length (lines_of e.session log) in
+    let n = length (lines_of_session e.session log) in
     let found : (cell cs e.session).0 ≡ n = ap (λ (c : Cell). c.0) (kept.counts e.session within) in
     let here : n ≡ old = grind (arith, eqb_tells n old) in
-    let all : lines_of e.session log ≡ lines_of e.session v = all_seen e.session v log pre (here ∙ sym len) in (
+    let all : lines_of_session e.session log ≡ lines_of_session e.session v = all_seen e.session v log pre (here ∙ sym len) in (
       keeps,
       e ∷ [],
       None,
       tt,
       subst (λ (m : ℕ). IsCounted (slice_set cs e.session (either (m == old) (old + 1) m, true)) (log ++ e ∷ [])) (sym found) (rw is (counted_more cs log e old kept here within)),
       inl (refl, refl),
-      subst (λ (m : ℕ). MatchBool (m == old) (lines_of e.session (log ++ e ∷ []) ≡ lines_of e.session v ++ e ∷ []) (Unit {0})) (sym found) (rw is (own_more log e ∙ ap (λ l. l ++ e ∷ []) all)),
+      subst (λ (m : ℕ). MatchBool (m == old) (lines_of_session e.session (log ++ e ∷ []) ≡ lines_of_session e.session v ++ e ∷ []) (Unit {0})) (sym found) (rw is (own_more log e ∙ ap (λ l. l ++ e ∷ []) all)),
     )
 adds_goes cs log v e old kept len within pre false is =
-    let n = length (lines_of e.session log) in
+    let n = length (lines_of_session e.session log) in
     let found : (cell cs e.session).0 ≡ n = ap (λ (c : Cell). c.0) (kept.counts e.session within) in (
       keeps,
       [],
@@ -122,16 +122,16 @@ adds_goes cs log v e old kept len within pre false is =
       tt,
       subst (λ (m : ℕ). IsCounted (slice_set cs e.session (either (m == old) (old + 1) m, true)) (log ++ [])) (sym found) (rw is (counted_same cs log e.session kept within)),
       inl (refl, refl),
-      subst (λ (m : ℕ). MatchBool (m == old) (lines_of e.session (log ++ []) ≡ lines_of e.session v ++ e ∷ []) (Unit {0})) (sym found) (rw is tt),
+      subst (λ (m : ℕ). MatchBool (m == old) (lines_of_session e.session (log ++ []) ≡ lines_of_session e.session v ++ e ∷ []) (Unit {0})) (sym found) (rw is tt),
     )
 
 -- whatever the book is, the exchange adds the line behind all of its session that had been seen, or finds that there are more
-pub adds_moves : (v : List PutLine) (e : PutLine) (old : ℕ) → length (lines_of e.session v) ≡ old → e.session < 64
+pub adds_moves : (v : List PutLine) (e : PutLine) (old : ℕ) → length (lines_of_session e.session v) ≡ old → e.session < 64
     → Moves IsCounted shown moved e.session (v, (no_nib, None)) (λ n. either (n == old) (old + 1) n) (Appends (step e.session old (old + 1) e) (v, (no_nib, None)))
 adds_moves v e old len within cs log kept pre away = (
   (let wide = kept.wide in omega (arith, wide, within)),
   ap (λ (c : Cell). c.1) (kept.counts e.session within),
-  adds_goes cs log v e old kept len within pre (length (lines_of e.session log) == old) refl,
+  adds_goes cs log v e old kept len within pre (length (lines_of_session e.session log) == old) refl,
 )
 
 -- .. of all words the one at a session's place
@@ -147,8 +147,8 @@ word_in book words k word all within is = by_get (in_place words k word within i
     by_get got = word_at book 64 k word (subst (λ (l : List Named). slice_get l k ≡ Some word) all got)
 
 -- what the exchange added
-pub added_so : (b : Bool) (log v : List PutLine) (e line : PutLine) → MatchBool b (lines_of e.session log ≡ lines_of e.session v ++ e ∷ []) (Unit {0}) → b ≡ true → e ≡ line → lines_of line.session log ≡ lines_of line.session v ++ line ∷ []
-added_so true log v e line is test same = subst (λ (x : PutLine). lines_of x.session log ≡ lines_of x.session v ++ x ∷ []) same is
+pub added_so : (b : Bool) (log v : List PutLine) (e line : PutLine) → MatchBool b (lines_of_session e.session log ≡ lines_of_session e.session v ++ e ∷ []) (Unit {0}) → b ≡ true → e ≡ line → lines_of_session line.session log ≡ lines_of_session line.session v ++ line ∷ []
+added_so true log v e line is test same = subst (λ (x : PutLine). lines_of_session x.session log ≡ lines_of_session x.session v ++ x ∷ []) same is
 added_so false log v e line is test same = absurd (cc test)
 
 -- the words of one session more

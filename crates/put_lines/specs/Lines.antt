@@ -5,8 +5,8 @@ use Rattle.logbook.specs.Pages.{Book}
 use Rattle.put_lines.specs.declared.put_line.PutLine.{PutLine}
 
 -- those of one session, in order
-abbrev pub lines_of : ℕ → List PutLine → List PutLine
-lines_of session lines = filter (λ l. l.session == session) lines
+abbrev pub lines_of_session : ℕ → List PutLine → List PutLine
+lines_of_session session lines = filter (λ l. l.session == session) lines
 
 -- a beginning of the list of a book
 pub record Listed : Type 0 where
@@ -20,4 +20,4 @@ listed book lines = record { book = book; lines = lines }
 pub record AddsLine (old : Listed) (line : PutLine) (new : Listed) : Type 0 where
   pub book : new.book ≡ old.book
   pub on : IsPrefix old.lines new.lines
-  pub added : lines_of line.session new.lines ≡ lines_of line.session old.lines ++ line ∷ []
+  pub added : lines_of_session line.session new.lines ≡ lines_of_session line.session old.lines ++ line ∷ []

@@ -2,12 +2,12 @@
 use Rattle.std.specs.Prelude.{ℕ, zero, suc, ◌≡◌, ◌<◌, ◌==◌, true, List, [], ◌∷◌, ◌++◌, length, MatchBool}
 use Rattle.logbook.specs.Pages.{Cell, Step, View, Book, Named, cell}
 use Rattle.put_lines.specs.declared.put_line.PutLine.{PutLine}
-use Rattle.put_lines.specs.Lines.{lines_of}
+use Rattle.put_lines.specs.Lines.{lines_of_session}
 
 -- each of the 64 words is how many lines of its session there are
 pub record IsCounted (cells : List Cell) (log : List PutLine) : Type 0 where
   pub wide : length cells ≡ 64
-  pub counts : (session : ℕ) → session < 64 → cell cells session ≡ (length (lines_of session log), true)
+  pub counts : (session : ℕ) → session < 64 → cell cells session ≡ (length (lines_of_session session log), true)
 
 -- the word of a session
 abbrev pub word_of : Book → ℕ → Named
@@ -20,4 +20,4 @@ words_of book (suc n) = words_of book n ++ word_of book n ∷ []
 
 -- the line was added behind all of its session that had been seen; or there were more
 abbrev pub Appends : Step PutLine → View PutLine ℕ → ℕ → View PutLine ℕ → Type 0
-Appends s v found w = MatchBool (found == s.old) (lines_of s.ask.session w.0 ≡ lines_of s.ask.session v.0 ++ s.ask ∷ []) (Unit {0})
+Appends s v found w = MatchBool (found == s.old) (lines_of_session s.ask.session w.0 ≡ lines_of_session s.ask.session v.0 ++ s.ask ∷ []) (Unit {0})

@@ -1,7 +1,7 @@
 // The book: the list of lines, which exists in the proofs alone, and a word for each session, which counts its lines.
 ghost use Rattle.std.specs.Prelude.{◌≡◌, length, IfOk, IfSome, []};
 ghost use mathlib.Core.List.{IsPrefix};
-ghost use Rattle.put_lines.specs.Lines.{AddsLine, lines_of};
+ghost use Rattle.put_lines.specs.Lines.{AddsLine, lines_of_session};
 ghost use Rattle.put_lines.specs.Rules.{words_of};
 
 use crate::put_line::PutLine;
@@ -191,7 +191,7 @@ impl PutLines {
     /// The list with a line more behind so many of its session, which are all that were seen of it. None where there are more.
     pub fn add(&self, book: &LineBook, line: &PutLine, number: u64) -> Option<PutLines>
         requires book { book.now.book ≡ self.now.book }
-        requires number { number ≡ length (lines_of line.now.session self.now.lines) }
+        requires number { number ≡ length (lines_of_session line.now.session self.now.lines) }
         ensures { IfSome result (λ all. AddsLine self.now line.now all) }
     {
         let session = line.session as usize;

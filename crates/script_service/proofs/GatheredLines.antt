@@ -17,7 +17,7 @@ use Rattle.value_syntax.specs.declared.line.ScriptLine.TheVariants.{Edit, Route}
 use Rattle.live_lines.specs.declared.asked.Asked.{Asked}
 use Rattle.live_lines.specs.declared.answer.Answer.{Answer}
 use Rattle.live_lines.specs.declared.answer.Answer.TheVariants.{Settled, AlreadyIn, RefusedBefore, OldTicket, Way}
-use Rattle.live_lines.specs.Answers.{Fits, script_text}
+use Rattle.live_lines.specs.Answers.{FitsAsked, script_text}
 use Rattle.line_exchange.specs.declared.printed.Printed.{Printed}
 use Rattle.line_exchange.specs.declared.line_fault.LineFault.TheVariants.{Failed}
 use Rattle.line_exchange.specs.declared.served.Served.{Served}
@@ -33,7 +33,7 @@ use Rattle.live_service.specs.ServedList.{HasPrintedOn, HasServedOn}
 use Rattle.live_service.proofs.Ended.{none_given}
 
 -- an answer to a line is a verdict just where the line is an edit
-same_kind : (l : ScriptLine) (answer : Answer) → Fits (line_asked l) answer → is_verdict answer ≡ Some (is_edit l)
+same_kind : (l : ScriptLine) (answer : Answer) → FitsAsked (line_asked l) answer → is_verdict answer ≡ Some (is_edit l)
 same_kind (Edit session change) (Settled mark) fits = refl
 same_kind (Edit session change) (AlreadyIn s t) fits = (let none = fits.1 in absurd (cc))
 same_kind (Edit session change) (RefusedBefore s t op code) fits = (let none = fits.1 in absurd (cc))
@@ -58,8 +58,8 @@ of_script known script editors answers many said =
     ∥∥₁_elim (said k answer at) (Coded-set (coded_option coded_bool) _ _) (λ x.
     let both : Some x.by.line ≡ Some l = sym x.by.at ∙ is in
     let line : x.by.line ≡ l = cc in
-    let fits : Fits (line_asked x.by.line) answer = subst (λ (a : Asked). Fits a answer) x.by.asks x.fits in
-    same_kind l answer (subst (λ (line : ScriptLine). Fits (line_asked line) answer) line fits)))
+    let fits : FitsAsked (line_asked x.by.line) answer = subst (λ (a : Asked). FitsAsked a answer) x.by.asks x.fits in
+    same_kind l answer (subst (λ (line : ScriptLine). FitsAsked (line_asked line) answer) line fits)))
 
 -- the text that was gathered where no fault was given is that of answers to a whole script
 script_whole : (input : Input) (script : List ScriptLine) (editors : ℕ) (printed : Printed) (given : Option Fault) (ended : Served) (text : List ℕ) → input ≡ Script script

@@ -5,7 +5,7 @@ use Rattle.command_output.specs.declared.fault.Fault.{Fault}
 use Rattle.command_output.specs.declared.fault.Fault.TheVariants as told
 use Rattle.intake.specs.Turns.{of}
 use Rattle.committer.specs.Answers.{asked_group}
-use Rattle.committer.specs.CommitterWords.{asked, got_of, posts_of, store_of}
+use Rattle.committer.specs.CommitterWords.{held_or_taken, got_of, posts_of, store_of}
 use Rattle.device_commands.specs.Answer.{state_by}
 use Rattle.device_commands.specs.Edits.{IsSettledTo}
 use Rattle.device_commands.proofs.OneRequest.{by_round, on_any, outcome_never, refused_by, told_is, worn_alone, worn_is_taken}
@@ -21,12 +21,12 @@ returns-in-Ok-clause-settled g c r is =
     let end = c.end-watcher.ensures in
     let put : r ∷ [] ≡ of c.args.editor.session (got_of mid ++ end.whole.0) =
     sym is ∙ (sym c.outcome-seen.ensures.put ∙ (end.whole.1 ∙ (λ i. of (c.outcome-seen.ensures.same.1.0 i) (end.same.1.0 i ++ end.whole.0)))) in
-    let one : (asked old mid ≡ []) ⊎ (asked old mid ≡ r ∷ []) = asked_one old mid c.args.editor r end.whole.0 c.requires by.takes.taken put in
+    let one : (held_or_taken old mid ≡ []) ⊎ (held_or_taken old mid ≡ r ∷ []) = asked_one old mid c.args.editor r end.whole.0 c.requires by.takes.taken put in
     let begins : (posts_of old).posted ++ (posts_of old).due ≡ [] = λ i. c.requires.posted i ++ c.requires.due i in
     let verdict = IfOk-weaker seen _ _ (λ v t. told_is (asked_group old mid) mid r c.in-Ok.field-0.accepted c.args.editor v begins one by.ok t) c.outcome-seen.ensures.told in
     let fault = c.outcome-seen.ensures.fault in
     subst (λ s. IsSettledTo (state_by (state_of (store_of old)) r) r.change (store_of old) s seen) (sym end.store)
-    (by_round (store_of old) (store_of mid) (asked old mid) r seen one c.requires.up by.idle by.goes_on.ran by.any_moment verdict (on_any seen by.ok.state)
+    (by_round (store_of old) (store_of mid) (held_or_taken old mid) r seen one c.requires.up by.idle by.goes_on.ran by.any_moment verdict (on_any seen by.ok.state)
     (λ _. (by.stays_up c.requires.up (λ e. cc), inr by.ok.state))
     (outcome_never seen told.Worn (λ x. x) fault) (outcome_never seen told.NoThread (λ x. x) fault) (outcome_never seen told.Device (λ x. x) fault))
 
@@ -38,7 +38,7 @@ returns-clause-settled g c r is =
     let end = c.end-watcher.ensures in
     let put : r ∷ [] ≡ of c.args.editor.session (got_of mid ++ end.whole.0) =
     sym is ∙ (sym c.outcome-seen.ensures.put ∙ (end.whole.1 ∙ (λ i. of (c.outcome-seen.ensures.same.1.0 i) (end.same.1.0 i ++ end.whole.0)))) in
-    let one : (asked old mid ≡ []) ⊎ (asked old mid ≡ r ∷ []) = asked_one old mid c.args.editor r end.whole.0 c.requires by.takes.taken put in
+    let one : (held_or_taken old mid ≡ []) ⊎ (held_or_taken old mid ≡ r ∷ []) = asked_one old mid c.args.editor r end.whole.0 c.requires by.takes.taken put in
     subst (λ s. IsSettledTo (state_by (state_of (store_of old)) r) r.change (store_of old) s (Err c.fault_of.result)) (sym end.store)
     (subst (λ (f : Fault). IsSettledTo (state_by (state_of (store_of old)) r) r.change (store_of old) (store_of mid) (Err f)) (sym c.fault_of.ensures)
     (refused_by old mid r c.in-Err.refused one c.requires.up c.requires.due by.idle by.goes_on.ran by.any_moment

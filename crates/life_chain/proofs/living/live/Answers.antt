@@ -6,7 +6,7 @@ use Rattle.layout_2.specs.State.{State}
 use Rattle.checkpoint.specs.StoreWords.{state_of, view_of, is_down, disk_of, stands_now}
 use Rattle.generations.specs.Notices.{notice_of}
 use Rattle.group_commit.specs.DeskWords.{store_of, due_of}
-use Rattle.event_laws.specs.History.{Lists, begun as none_yet}
+use Rattle.event_laws.specs.History.{Lists, lists_begun as none_yet}
 use Rattle.event_laws.specs.Runs.{IsRun}
 use Rattle.event_model.specs.declared.event.Event.{Event}
 use Rattle.event_model.specs.Machines.{Machine, begun, fresh_session}

@@ -2,7 +2,7 @@ use Rattle.std.proofs.Common.{◌≡◌, [], length, Bool, sym, ap, ◌∙◌, s
 use Rattle.checkpoint.specs.StoreWords.{state_of, view_of, disk_of, is_down, stands_now}
 use Rattle.layout_2.specs.State.{State}
 use Rattle.group_commit.specs.DeskWords.{store_of}
-use Rattle.event_laws.specs.History.{Lists, begun as opened}
+use Rattle.event_laws.specs.History.{Lists, lists_begun as opened}
 use Rattle.event_laws.specs.Runs.{IsRun}
 use Rattle.event_model.specs.Machines.{Machine}
 use Rattle.event_laws.specs.OneLife.{history_of}

@@ -2,7 +2,7 @@ use Rattle.std.proofs.Common.{rules, ◌≡◌, ◌==◌, ◌∙◌, ◌++◌, �
 use Rattle.std.proofs.lemmas.Bool.{eq-eqb}
 use mathlib.Core.List.{IsPrefix}
 use Rattle.put_lines.specs.declared.put_line.PutLine.{PutLine}
-use Rattle.put_lines.specs.Lines.{lines_of}
+use Rattle.put_lines.specs.Lines.{lines_of_session}
 use Rattle.put_lines.proofs.Appending.{added_so, adds_moves, word_in}
 use Rattle.put_lines.proofs.book.PutLines.add.Goals as goal
 
@@ -19,7 +19,7 @@ compare_exchange-found-requires c =
       pen.0 ∙ b,
       offer.0,
       rw (ap (λ w. w.key) word.1, pen.1, offer.1, offer.3)
-          (adds_moves c.again-seen.result.log line c.args.number (ap (λ z. length (lines_of line.session z.log)) s ∙ (ap (λ w. length (lines_of line.session w.lines)) c.self.view_is ∙ sym c.requires.number)) word.0),
+          (adds_moves c.again-seen.result.log line c.args.number (ap (λ z. length (lines_of_session line.session z.log)) s ∙ (ap (λ w. length (lines_of_session line.session w.lines)) c.self.view_is ∙ sym c.requires.number)) word.0),
     )
 
 pub returns : goal.returns
@@ -32,5 +32,5 @@ returns c =
     record {
       book = found.0 ∙ (ap (λ z. z.book) s ∙ ap (λ w. w.book) c.self.view_is);
       on = subst (λ (l : List PutLine). IsPrefix l new) log found.6;
-      added = subst (λ (l : List PutLine). lines_of c.args.line.now.session new ≡ lines_of c.args.line.now.session l ++ c.args.line.now ∷ []) log added;
+      added = subst (λ (l : List PutLine). lines_of_session c.args.line.now.session new ≡ lines_of_session c.args.line.now.session l ++ c.args.line.now ∷ []) log added;
     }
