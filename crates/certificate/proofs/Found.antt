@@ -1,6 +1,7 @@
 -- Tests of what a look-up found.
 use Rattle.std.proofs.Common.{◌≡◌, ◌⊎◌, inl, inr, Bool, true, false, refl, subst}
 use Rattle.std.specs.Prelude.{◌↔◌, IsTrue, Option, Some, None}
+use Rattle.std.proofs.lemmas.Bool.{false≢true}
 use Rattle.schemes.proofs.Basics.Options.{same_value, not_none}
 
 pub found : {X : Type 0} (o : Option X) (g : X) (P : X → Type 0) (b : Bool) → o ≡ Some g → IsTrue b ↔ P g → IsTrue b ↔ ((x : X) × ((o ≡ Some x) × P x))
@@ -13,18 +14,8 @@ found_first o g P Q b e h = (λ t. inl (g, (e, h.0 t)), λ k. elim k [ inl j ↦
 pub and_more : {P Q : Type 0} (b : Bool) → P → IsTrue b ↔ Q → IsTrue b ↔ (P × Q)
 and_more b p h = (λ t. (p, h.0 t), λ k. h.1 k.1)
 
--- a test that failed
-pub fails : {P : Type 0} (b : Bool) → IsTrue b ↔ P → b ≡ false → P → ⊥
-fails b h e p = both (h.1 p) e
-  where
-    both : b ≡ true → b ≡ false → ⊥
-    both u v = cc
-
 pub refused : {P : Type 0} → (P → ⊥) → IsTrue false ↔ P
-refused n = (λ t. bad t, λ p. absurd (n p))
-  where
-    bad : {X : Type 0} → false ≡ true → X
-    bad e = absurd (let f : false ≡ true = e in cc)
+refused n = (λ t. absurd (false≢true t), λ p. absurd (n p))
 
 pub accepted : {P : Type 0} → P → IsTrue true ↔ P
 accepted p = (λ _. p, λ _. refl)

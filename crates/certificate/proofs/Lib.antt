@@ -6,6 +6,5 @@ pub mod Ranges
 pub mod LabelLemmas
 pub mod ClimbLemmas
 pub mod RowLemmas
-pub mod LinkedLabels
 pub mod Rules
 pub mod TreeLemmas

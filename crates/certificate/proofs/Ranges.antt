@@ -1,9 +1,10 @@
 -- Ranges of nodes: each node lies in one of them, and what holds in all of them holds of each node.
-use Rattle.std.proofs.Common.{◌≡◌, ℕ, zero, suc, ◌+◌, ◌*◌, ◌/◌, ◌%◌, ◌<◌, ◌≤◌, min, Bool, true, false, nat_lt, refl, sym, subst, arith, List, length, get_or}
+use Rattle.std.proofs.Common.{◌≡◌, ℕ, ◌+◌, ◌*◌, ◌/◌, ◌%◌, ◌<◌, ◌≤◌, min, Bool, false, sym, ap, subst, arith, List, length, get_or, inl, inr}
 use Rattle.std.specs.Prelude.{IsTrue}
 use Rattle.std.specs.List.{All}
-use Rattle.std.proofs.lemmas.Bool.Decides.{nat_tests}
+use Rattle.std.proofs.lemmas.Nat.{div-add-mod', div_below, mod_below}
 use Rattle.std.proofs.lemmas.Grind.{div_ceil_times}
+use Rattle.std.proofs.lemmas.Bool.{cases_lt}
 use Rattle.certificate.specs.Ranges.{HoldBetween, HoldInRange}
 
 -- the range of a node
@@ -13,19 +14,11 @@ pub record Lies (size x k : ℕ) : Type 0 where
   pub from : i * size ≤ x
   pub to : x < i * size + size
 
-in_one_of : (size x k : ℕ) → x < suc k * size → (x < k * size → Lies size x k) → Lies size x (suc k)
-in_one_of size x k l earlier = go (nat_lt x (k * size)) refl
-  where
-    go : (b : Bool) → nat_lt x (k * size) ≡ b → Lies size x (suc k)
-    go true e = (let p = earlier (grind (arith, nat_tests)) in record { i = p.i; below = omega (arith, p.below); from = p.from; to = p.to })
-    go false e =
-        let from : k * size ≤ x = grind (arith, nat_tests) in
-        let wide : suc k * size ≡ k * size + size = omega arith in
-        record { i = k; below = omega arith; from = from; to = omega (arith, l, wide) }
-
-pub place_of : (size x k : ℕ) → x < k * size → Lies size x k
-place_of size x zero l = absurd (omega (arith, l))
-place_of size x (suc k) l = in_one_of size x k l (place_of size x k)
+place_of : (size x k : ℕ) → x < k * size → Lies size x k
+place_of size x k l = elim (cases_lt 0 size) [
+  | inl some ↦ record { i = x / size; below = div_below x size k some l; from = omega (arith, div-add-mod' x size); to = omega (arith, div-add-mod' x size, mod_below x size some) }
+  | inr none ↦ absurd (let zero_size : size ≡ 0 = omega (arith, none) in let e : k * size ≡ k * 0 = ap (λ s. k * s) zero_size in omega (arith, l, e))
+]
 
 -- what holds between the bounds of a range
 pub in_range : (P : ℕ → Type 0) (nodes size i first last : ℕ) → first ≡ min (i * size) nodes → last ≡ min (i * size + size) nodes → HoldBetween P first last → HoldInRange P nodes size i

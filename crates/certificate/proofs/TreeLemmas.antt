@@ -1,9 +1,8 @@
 -- The swift pass: what stands in front of the places, and what follows once all trees are right.
-use Rattle.std.proofs.Common.{◌≡◌, ◌<◌, ◌≤◌, ◌+◌, inl, inr, ℕ, Bool, true, false, sym, refl, ap, subst, ◌∙◌, arith, nat_lt, List, length, get_or}
+use Rattle.std.proofs.Common.{◌≡◌, ◌<◌, ◌≤◌, ◌+◌, inl, inr, ℕ, false, sym, refl, ap, subst, ◌∙◌, arith, List, length, get_or}
 use Rattle.std.specs.Prelude.{IsSome, slice_index}
 use Rattle.std.specs.List.{All}
-use Rattle.std.proofs.lemmas.Bool.Decides.{nat_tests}
-use Rattle.std.proofs.lemmas.Bool.{cases_eq}
+use Rattle.std.proofs.lemmas.Bool.{cases_eq, cases_lt}
 use Rattle.std.proofs.lemmas.Grind.{get_or-set_at}
 use Rattle.std.proofs.lemmas.List.{get_or_default, get_or-set_other, length-set}
 use Rattle.std.proofs.Math.ListN.{set}
@@ -11,16 +10,17 @@ use Rattle.graph_edits.specs.Edges.{Network, IsSound}
 use Rattle.schemes.specs.declared.parts.Parts.{Parts}
 use Rattle.schemes.specs.Entry.{Entry}
 use Rattle.schemes.specs.Checks.{Fault, IsChecked, k1, k2, k3, k4, k5, k6, k7, k8}
-use Rattle.schemes.specs.Tables.{tables, entries_at, roots_of}
-use Rattle.schemes.proofs.Basics.Searches.{key_at, keys_length, rises}
+use Rattle.schemes.specs.Tables.{tables, entries_at}
+use Rattle.schemes.proofs.Basics.Searches.{key_at}
 use Rattle.certificate.specs.Climbs.{HasLabelsAt}
 use Rattle.certificate.specs.Entries.{AllAscend, AreBelow, HasDirectoryAt, IsListedBack, IsStrictAt, IsClosedAt, IsFramed, IsNodeFramed, IsRightOver, IsTightAt}
 use Rattle.certificate.specs.Ranges.{HoldOfAll}
 use Rattle.certificate.specs.Rows.{IsLocalAt, IsSwept}
 use Rattle.certificate.specs.Rules.{HoldsAt, HoldsBefore}
 use Rattle.certificate.specs.Trees.{AreRightTo, ArePast, GoOn, IsEntryRight, IsTreeRight}
-use Rattle.certificate.proofs.LinkedLabels.{linked_to}
-use Rattle.certificate.proofs.Rules.{first_of, rule_to}
+use Rattle.certificate.proofs.LabelLemmas.{linked_to}
+use Rattle.certificate.proofs.LookUps.{roots_rise}
+use Rattle.certificate.proofs.Rules.{first_of, rule}
 use Rattle.certificate.proofs.Verdict.{checked_by}
 
 -- at first nothing counts that stands in front of the places
@@ -34,18 +34,14 @@ right_first m p first places below x j d l k in_list le =
 right_more : (m : Network) (p : Parts) (first x k : ℕ) (old : List ℕ) (e : Entry) → x < length old → slice_index old x < length (entries_at p x) → e ≡ get_or (entries_at p x) (slice_index old x) e → IsEntryRight m p x e
     → k ≤ slice_index old x + 1 → AreRightTo m p first old → AreRightTo m p first (set old x k)
 right_more m p first x k old e room within is right step h y j d l lt in_list le = elim (cases_eq y x) [
-  | inl same ↦ here same (nat_lt j (slice_index old x)) refl
+  | inl same ↦ (
+      let s = get_or-set_at old x y k 0 same room in
+      elim (cases_lt j (slice_index old x)) [
+        | inl a ↦ h y j d l (let o = ap (slice_index old) same in omega (arith, o, a)) in_list le
+        | inr a ↦ (let at : j ≡ slice_index old x = omega (arith, s, a, lt, step) in rw (same, at) (subst (IsEntryRight m p x) (is ∙ get_or_default (entries_at p x) (slice_index old x) e d within) right))
+      ])
   | inr ne ↦ h y j d l (let s = get_or-set_other old x y k 0 ne in omega (arith, s, lt)) in_list le
 ]
-  where
-    here : y ≡ x → (b : Bool) → nat_lt j (slice_index old x) ≡ b → IsEntryRight m p y (get_or (entries_at p y) j d)
-    here same true t = h y j d l (let s = ap (slice_index old) same in let a : j < slice_index old x = grind (arith, nat_tests) in omega (arith, s, a)) in_list le
-    here same false t =
-        let s = get_or-set_at old x y k 0 same room in
-        let a : slice_index old x ≤ j = grind (arith, nat_tests) in
-        let at : slice_index old x ≡ j = omega (arith, s, a, lt, step) in
-        subst (λ z. IsEntryRight m p z (get_or (entries_at p z) j d)) (sym same)
-        (subst (λ i. IsEntryRight m p x (get_or (entries_at p x) i d)) at (subst (IsEntryRight m p x) (is ∙ get_or_default (entries_at p x) (slice_index old x) e d within) right))
 
 pub gone_on : (m : Network) (p : Parts) (x k r : ℕ) (old : List ℕ) (e : Entry) → x < length old → slice_index old x < length (entries_at p x) → e ≡ get_or (entries_at p x) (slice_index old x) e → e.root ≡ r → k ≤ slice_index old x + 1
     → IsSwept m (tables p) x e → IsStrictAt (tables p) x e → ((tables p).landmark r ≡ false → IsSome ((tables p).listed r x)) → GoOn m p old (set old x k)
@@ -63,26 +59,14 @@ stays m p a = record { room = refl; right = λ first h. h }
 -- at the end all entries for a root of the range stand in front of the places
 pub right_last : (m : Network) (p : Parts) (first last r : ℕ) (places : List ℕ) → AllAscend p → AreRightTo m p first places → ArePast p m.nodes last places → first ≤ r → r < last
     → (x : ℕ) → x < m.nodes → All (λ e. e.root ≡ r → IsEntryRight m p x e) (entries_at p x)
-right_last m p first last r places up h past from to x l j d in_list root = h x j d l (front (nat_lt j (slice_index places x)) refl) in_list (omega (arith, root, from))
-  where
-    front : (b : Bool) → nat_lt j (slice_index places x) ≡ b → j < slice_index places x
-    front true t = grind (arith, nat_tests)
-    front false t =
-        let le : slice_index places x ≤ j = grind (arith, nat_tests) in
-        let many = keys_length (λ (z : Entry). z.root) (entries_at p x) in
-        let key = key_at (λ (z : Entry). z.root) (entries_at p x) j d in_list in
-        let a = past x l (omega (arith, le, in_list)) in
-        absurd (go (nat_lt (slice_index places x) j) refl le many key a)
-      where
-        go : (b : Bool) → nat_lt (slice_index places x) j ≡ b → slice_index places x ≤ j → length (roots_of (entries_at p x)) ≡ length (entries_at p x) → slice_index (roots_of (entries_at p x)) j ≡ (get_or (entries_at p x) j d).root
-            → last ≤ slice_index (roots_of (entries_at p x)) (slice_index places x) → ⊥
-        go true t le many key a =
-            let b = rises (roots_of (entries_at p x)) (up x) (slice_index places x) j (grind (arith, nat_tests)) (omega (arith, many, in_list)) in
-            omega (arith, a, b, key, root, to)
-        go false t le many key a =
-            let same : slice_index places x ≡ j = grind (arith, nat_tests) in
-            let at = ap (slice_index (roots_of (entries_at p x))) same in
-            omega (arith, a, at, key, root, to)
+right_last m p first last r places up h past from to x l j d in_list root = elim (cases_lt j (slice_index places x)) [
+  | inl front ↦ h x j d l front in_list (omega (arith, root, from))
+  | inr le ↦ (
+      let a = past x l (omega (arith, le, in_list)) in
+      let b = roots_rise (entries_at p x) (up x) (slice_index places x) j le in_list in
+      let key = key_at (λ (z : Entry). z.root) (entries_at p x) j d in_list in
+      absurd (omega (arith, a, b, key, root, to)))
+]
 
 -- so all rules hold
 module _ (m : Network) (p : Parts) (sound : IsSound m) (framed : IsFramed m p) (trees : HoldOfAll IsTreeRight m p) where
@@ -102,4 +86,4 @@ module _ (m : Network) (p : Parts) (sound : IsSound m) (framed : IsFramed m p) (
   holds_at k8 before x l = ((trees x l).root.order, ((trees x l).root.listed, λ i d k. (all_right x l i d k).listed))
 
   pub trees_checked : IsChecked m p
-  trees_checked = checked_by m p (λ k before. rule_to m p sound framed k before (holds_at k before))
+  trees_checked = checked_by m p (λ k before. (rule m p sound framed k before).0 (holds_at k before))

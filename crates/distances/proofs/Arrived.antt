@@ -1,6 +1,6 @@
 -- The arrivals at the nodes, while a search goes on and in its end.
-use Rattle.std.proofs.Common.{◌≡◌, ℕ, ◌+◌, ◌<◌, ◌≤◌, Bool, true, false, cond, ◌&&◌, ◌||◌, ◌≢◌, ◌↔◌, ◌⊎◌, inl, inr, List, [], ◌∷◌, length, get_or, set, Option, Some, None, eqb, ltb, refl, sym, ap, ◌∙◌, subst, arith, get_or-set_same, get_or-set_other}
-use Rattle.std.proofs.lemmas.Bool.{cases_eq}
+use Rattle.std.proofs.Common.{◌≡◌, ℕ, ◌+◌, ◌<◌, ◌≤◌, Bool, true, false, cond, ◌&&◌, ◌||◌, ◌≢◌, ◌↔◌, inl, inr, List, [], ◌∷◌, length, get_or, set, Option, Some, None, eqb, ltb, refl, sym, ap, ◌∙◌, subst, arith, get_or-set_same, get_or-set_other}
+use Rattle.std.proofs.lemmas.Bool.{cases_eq, and_from, and_parts, both_ways, ltb-false, or_cases, or_parts, or_left}
 use Rattle.std.proofs.Math.Bool.{and-false}
 use Rattle.std.proofs.lemmas.Bool.Decides.{nat_tests}
 use Rattle.std.proofs.lemmas.List.{get_or_default}
@@ -92,38 +92,12 @@ port_both g x y down is port = (
 
 -- ---- a turn
 
-not_below : (a b : ℕ) → ltb a b ≡ false → b ≤ a
-not_below a b t = grind (arith, nat_tests)
-
 tied_is : (d e : ℕ) (o : Option ℕ) → is_tied d o ≡ true → o ≡ Some e → e ≡ d
 tied_is d e o t is = let u : eqb e d ≡ true = sym (ap (is_tied d) is) ∙ t in grind (arith, nat_tests)
 
 smaller_is : (x : ℕ) (o : Option Arrival) → is_smaller x o ≡ true → (a : Arrival) × ((o ≡ Some a) × (x < a.parent))
 smaller_is x None t = let u : false ≡ true = t in absurd (cc)
 smaller_is x (Some a) t = (a, (refl, grind (arith, nat_tests)))
-
-one_of : (a b : Bool) → (a || b) ≡ true → (a ≡ true) ⊎ (b ≡ true)
-one_of true b t = inl refl
-one_of false b t = inr t
-
-both_of : (a b : Bool) → (a && b) ≡ true → (a ≡ true) × (b ≡ true)
-both_of true b t = (refl, t)
-both_of false b t = let e : false ≡ true = t in absurd (cc)
-
-first_taken : (a b : Bool) → a ≡ true → (a || b) ≡ true
-first_taken true b t = refl
-first_taken false b t = let e : false ≡ true = t in absurd (cc)
-
-none_of : (a b : Bool) → (a || b) ≡ false → b ≡ false
-none_of true b t = let e : true ≡ false = t in absurd (cc)
-none_of false b t = t
-
-both_true : (a b : Bool) → a ≡ true → b ≡ true → (a && b) ≡ true
-both_true true b t u = u
-both_true false b t u = let e : false ≡ true = t in absurd (cc)
-
-never : (b : Bool) → b ≡ true → b ≡ false → ⊥
-never b t f = let e : true ≡ false = sym t ∙ f in cc
 
 module _ (g : Network) (sound : IsSound g) (Source : ℕ → Type 0) (limit : ℕ → Option ℕ) (number number' : ℕ → Option ℕ) (done done' : ℕ → Bool) (order : List Settled) (p : Progress g.edges Source limit number done order) (x d : ℕ)
     (nearest : IsNext done number x d) (r : IsRelaxed g.edges limit x d number number') (now : done' x ≡ true) (others : (y : ℕ) → y ≢ x → done' y ≡ done y)
@@ -201,7 +175,7 @@ module _ (g : Network) (sound : IsSound g) (Source : ℕ → Type 0) (limit : �
   -- a neighbour whose number stayed has not a better one over x
   no_better : (y e w : ℕ) → weight_between g.edges x y ≡ Some w → number' y ≡ Some e → number y ≡ Some e → (is_below (d + w) (limit y) && is_better (d + w) (number y)) ≡ true → ⊥
   no_better y e w edge is was t =
-      let b = both_of _ _ t in
+      let b = and_parts _ _ t in
       let reached = r.reached y w edge b.0 in
       let same : reached.0 ≡ e = same_Some reached.0 e (sym reached.1.0 ∙ is) in
       let less : ltb (d + w) e ≡ true = sym (ap (is_better (d + w)) was) ∙ b.1 in
@@ -216,10 +190,10 @@ module _ (g : Network) (sound : IsSound g) (Source : ℕ → Type 0) (limit : �
   stayed y e w k edge is was port =
       let new : Arrival = record { parent = x; down = k } in
       elim (is_taken (limit y) (d + w) (number y) (arrival y) new) as (λ b. is_taken (limit y) (d + w) (number y) (arrival y) new ≡ b → IsArrival g number' done' y e (cond b (Some new) (arrival y))) [
-        | true ↦ λ t. elim (one_of _ _ t) [
+        | true ↦ λ t. elim (or_cases _ _ t) [
           | inl first ↦ absurd (no_better y e w edge is was first)
           | inr second ↦
-              let b = both_of _ _ second in
+              let b = and_parts _ _ second in
               let a = smaller_is x (arrival y) b.1 in
               smaller y e w k a.0 was (tied_is (d + w) e (number y) b.0 was) edge a.1.0 a.1.1 port
         ]
@@ -229,12 +203,12 @@ module _ (g : Network) (sound : IsSound g) (Source : ℕ → Type 0) (limit : �
             let sum : e ≡ d + w = h.1.1 ∙ ap (λ n. d + n) same in
             let u : eqb e (d + w) ≡ true = grind (arith, nat_tests) in
             let tied : is_tied (d + w) (number y) ≡ true = ap (is_tied (d + w)) was ∙ u in
-            by (is_smaller x (arrival y)) refl a at tied (none_of _ _ t))
+            by (is_smaller x (arrival y)) refl a at tied (or_parts _ _ t).1)
       ] refl
     where
       by : (b : Bool) → is_smaller x (arrival y) ≡ b → (a : Arrival) → arrival y ≡ Some a → is_tied (d + w) (number y) ≡ true → (is_tied (d + w) (number y) && is_smaller x (arrival y)) ≡ false → a.parent ≤ x
-      by true s a at tied none = absurd (never _ (both_true _ _ tied s) none)
-      by false s a at tied none = let f : ltb x a.parent ≡ false = sym (ap (is_smaller x) at) ∙ s in not_below x a.parent f
+      by true s a at tied none = absurd (both_ways _ none (and_from _ _ tied s))
+      by false s a at tied none = let f : ltb x a.parent ≡ false = sym (ap (is_smaller x) at) ∙ s in ltb-false x a.parent f
 
   at_neighbour : (y e w k : ℕ) → weight_between g.edges x y ≡ Some w → number' y ≡ Some e → over_port g x k ≡ Some y
       → IsArrival g number' done' y e (arrived (limit y) (d + w) (number y) (arrival y) (record { parent = x; down = k }))
@@ -246,7 +220,7 @@ module _ (g : Network) (sound : IsSound g) (Source : ℕ → Type 0) (limit : �
         let sum : d + w ≡ e = ap (λ n. d + n) (sym weight) ∙ same_Some (d + h.0) e (sym h.1.1 ∙ is) in
         let below : is_below (d + w) (limit y) ≡ true = ap (λ n. is_below (d + n) (limit y)) (sym weight) ∙ h.1.2 in
         let better : is_better (d + w) (number y) ≡ true = ap (λ n. is_better (d + n) (number y)) (sym weight) ∙ h.1.3 in
-        let taken : is_taken (limit y) (d + w) (number y) (arrival y) new ≡ true = first_taken _ _ (both_true _ _ below better) in
+        let taken : is_taken (limit y) (d + w) (number y) (arrival y) new ≡ true = or_left _ _ (and_from _ _ below better) in
         subst (λ n. IsArrival g number' done' y n (arrived (limit y) (d + w) (number y) (arrival y) new)) sum
         (subst (λ b. IsArrival g number' done' y (d + w) (cond b (Some new) (arrival y))) (sym taken) (fresh y w k edge below better port))
   ]

@@ -1,7 +1,7 @@
 -- What the search keeps from turn to turn, and what it has found in the end.
 use Rattle.std.proofs.Common.{◌≡◌, ℕ, ◌+◌, ◌*◌, ◌<◌, ◌≤◌, Bool, true, false, ◌≢◌, ◌⊎◌, inl, inr, List, [], ◌∷◌, ◌++◌, length, Option, Some, None, ltb, refl, sym, ap, ◌∙◌, subst, arith, length-append}
 use Rattle.std.specs.Option.{unwrap_or, IsSome, is_some}
-use Rattle.std.proofs.lemmas.Bool.{cases_eq}
+use Rattle.std.proofs.lemmas.Bool.{cases_eq, both_ways}
 use Rattle.std.proofs.lemmas.Bool.Decides.{nat_tests}
 use Rattle.std.proofs.lemmas.Option.{same_Some, none-some}
 use Rattle.graph_edits.specs.Edges.{EdgeMap, weight_between, greatest_weight}
@@ -38,8 +38,14 @@ le_from : (d x e y : ℕ) → Precedes d x e y → d ≤ e
 le_from d x e y (inl lt) = omega arith
 le_from d x e y (inr h) = omega arith
 
-both_ways : (b : Bool) → b ≡ true → b ≡ false → ⊥
-both_ways b p q = let e : true ≡ false = sym p ∙ q in cc
+pub has_push : (y : ℕ) (order : List Settled) (s : Settled) → HasNode y order → HasNode y (order ++ s ∷ [])
+has_push y [] s h = absurd h
+has_push y (t ∷ ts) s (inl e) = inl e
+has_push y (t ∷ ts) s (inr h) = inr (has_push y ts s h)
+
+pub has_here : (y : ℕ) (order : List Settled) (s : Settled) → y ≡ s.node → HasNode y (order ++ s ∷ [])
+has_here y [] s e = inl (sym e)
+has_here y (t ∷ ts) s e = inr (has_here y ts s e)
 
 module _ (m : EdgeMap) (Source : ℕ → Type 0) (limit : ℕ → Option ℕ) (number number' : ℕ → Option ℕ) (done done' : ℕ → Bool) (order : List Settled) (weighted : (a b w : ℕ) → weight_between m a b ≡ Some w → (1 ≤ w) × (w ≤ greatest_weight)) (p : Progress m Source limit number done order) (x d : ℕ)
     (nearest : IsNext done number x d) (r : IsRelaxed m limit x d number number') (now : done' x ≡ true) (others : (y : ℕ) → y ≢ x → done' y ≡ done y) where
@@ -70,7 +76,7 @@ module _ (m : EdgeMap) (Source : ℕ → Type 0) (limit : ℕ → Option ℕ) (n
   was_done y t = elim (cases_eq y x) [ inl e ↦ inl e | inr ne ↦ inr (sym (others y ne) ∙ t) ]
 
   was_open : (y : ℕ) → done' y ≡ false → (y ≢ x) × (done y ≡ false)
-  was_open y t = let ne : y ≢ x = λ e. both_ways (done' y) (ap done' e ∙ now) t in (ne, sym (others y ne) ∙ t)
+  was_open y t = let ne : y ≢ x = λ e. both_ways (done' y) t (ap done' e ∙ now) in (ne, sym (others y ne) ∙ t)
 
   -- a settled node, by its number before
   pub number_before : (y e : ℕ) → done' y ≡ true → number' y ≡ Some e → (number y ≡ Some e) × (e ≤ d)
@@ -142,15 +148,6 @@ module _ (m : EdgeMap) (Source : ℕ → Type 0) (limit : ℕ → Option ℕ) (n
       still : (y : ℕ) → done y ≡ true → done' y ≡ true
       still y t = elim (cases_eq y x) [ inl e ↦ ap done' e ∙ now | inr ne ↦ others y ne ∙ t ]
 
-  has_push : (y : ℕ) (ss : List Settled) → HasNode y ss → HasNode y (ss ++ here ∷ [])
-  has_push y [] h = absurd h
-  has_push y (s ∷ ss) (inl e) = inl e
-  has_push y (s ∷ ss) (inr h) = inr (has_push y ss h)
-
-  has_here : (y : ℕ) (ss : List Settled) → y ≡ x → HasNode y (ss ++ here ∷ [])
-  has_here y [] e = inl (sym e)
-  has_here y (s ∷ ss) e = inr (has_here y ss e)
-
   new_bounded : (y e : ℕ) → number' y ≡ Some e → e ≤ length (order ++ here ∷ []) * greatest_weight
   new_bounded y e is =
       let n : length (order ++ here ∷ []) ≡ length order + 1 = length-append order (here ∷ []) in
@@ -169,7 +166,7 @@ module _ (m : EdgeMap) (Source : ℕ → Type 0) (limit : ℕ → Option ℕ) (n
     front = precedes_open;
     ascending = ascending_push order p.ascending p.listed;
     listed = listed_push order p.listed;
-    complete = λ z t. elim (was_done z t) [ inl e ↦ has_here z order e | inr before ↦ has_push z order (p.complete z before) ];
+    complete = λ z t. elim (was_done z t) [ inl e ↦ has_here z order here e | inr before ↦ has_push z order here (p.complete z before) ];
     bounded = new_bounded;
   }
 
@@ -222,7 +219,7 @@ module _ (m : EdgeMap) (Source : ℕ → Type 0) (limit : ℕ → Option ℕ) (n
       by false t = above (limit v) e (walk_length m s xs) (p.within v e is) t
         where
           above : (o : Option ℕ) (a b : ℕ) → is_below a o ≡ true → is_below b o ≡ false → a ≤ b
-          above None a b t f = absurd (both_ways true refl f)
+          above None a b t f = absurd (both_ways true f refl)
           above (Some l) a b t f = grind (arith, nat_tests)
 
   exact_each : (ss : List Settled) → EachSettled (λ x d. (done x ≡ true) × (number x ≡ Some d)) ss → EachSettled (λ x d. IsLeast m Source x d × (is_below d (limit x) ≡ true)) ss

@@ -1,22 +1,21 @@
 -- The entries that wait in a heap.
 use Rattle.std.proofs.Common.{◌≡◌, ℕ, zero, suc, ◌+◌, ◌*◌, ◌<◌, ◌≤◌, Bool, true, false, cond, ◌&&◌, ◌≢◌, ◌⊎◌, inl, inr, List, [], ◌∷◌, ◌++◌, map, length, take, get_or, set, Option, Some, None, eqb, ltb, refl, sym, ap, ◌∙◌, subst, arith, length-append, get_or-set_same, get_or-set_other}
-use Rattle.std.specs.List.{All, Contains, filter_map, cons_option, count_by}
+use Rattle.std.specs.List.{All, Contains, count_by}
 use Rattle.std.specs.List.Sorted.{IsPermutation}
 use Rattle.std.specs.BinaryHeap.{IsHeap, IsUpperBound, lt_by_cmp}
-use Rattle.std.proofs.lemmas.Bool.{cases_eq, cases_lt}
+use Rattle.std.proofs.lemmas.Bool.{cases_eq, cases_lt, and_parts}
 use Rattle.std.proofs.lemmas.Bool.Decides.{nat_tests}
-use Rattle.std.proofs.lemmas.List.Elements.{All-cons, All-head, All-tail, All-same, All-weaker, All-contains, All-from_recursion, All-nil, All-from_get_or, Contains-append_right}
+use Rattle.std.proofs.lemmas.List.Elements.{All-cons, All-head, All-tail, All-same, All-weaker, All-contains, All-from_recursion, All-nil, Contains-append_right}
 use Rattle.std.proofs.lemmas.List.Sorted.{All-permutation, Contains-permutation, length_permutation}
-use Rattle.std.proofs.lemmas.List.Sums.{count_by_more_yes, count_by_more_no, sum_by-le, sum_by_push}
+use Rattle.std.proofs.lemmas.List.Sums.{count_by_more_yes, count_by_more_no, sum_by_push}
 use Rattle.std.proofs.lemmas.Option.{same_Some, none-some}
-use Rattle.graph_edits.specs.Edges.{Network, neighbours_of, weight_in, below, most_nodes}
-use Rattle.std.specs.Option.{option_map}
+use Rattle.graph_edits.specs.Edges.{Network, below, most_nodes}
 use Rattle.distances.specs.declared.search.Settled.{Settled}
 use Rattle.distances.specs.Search.{is_below, is_better, offered, flag_at, number_at, first_number, degrees, HasNode}
 use Rattle.distances.specs.Waiting.{Entry, nearest_first, waiting_key, IsQueue, IsJoined, IsTracked, Waits}
 use Rattle.graph_edits.specs.Edges.{degree_of}
-use Rattle.distances.proofs.Progress.{IsNext}
-use Rattle.distances.proofs.Turns.{number_set, split_and, first_at, flag_set_same, flag_set_other}
+use Rattle.distances.proofs.Progress.{IsNext, has_here, has_push}
+use Rattle.distances.proofs.Turns.{number_set, first_at, flag_set_same, flag_set_other}
 use Rattle.std.proofs.HeapSift.{at_most}
 use Rattle.std.proofs.lemmas.List.{get_or_past}
 use Rattle.std.proofs.Math.ListN.{get_or-append}
@@ -91,7 +90,7 @@ queue_offered n tentative done xs ys limit s lt within h j =
       | true ↦ λ t k. queue_joined n (number_at tentative) (number_at (set tentative s.node (Some s.distance))) done xs h s lt
           (number_set tentative s.node s.node (Some s.distance) within ∙ ap (λ b. cond b (Some s.distance) (number_at tentative s.node)) same)
           (λ z ne. let f : eqb z s.node ≡ false = grind (arith, nat_tests) in number_set tentative s.node z (Some s.distance) within ∙ ap (λ b. cond b (Some s.distance) (number_at tentative z)) f)
-          (split_and _ _ t).1 ys k
+          (and_parts _ _ t).1 ys k
       | false ↦ λ t k. queue_kept n (number_at tentative) (number_at (set tentative s.node (number_at tentative s.node))) done xs h ys k
           (λ z. number_set tentative s.node z (number_at tentative s.node) within ∙ elim (cases_eq z s.node) [
             | inl e ↦ subst (λ y. cond (eqb y s.node) (number_at tentative s.node) (number_at tentative y) ≡ number_at tentative y) (sym e) (ap (λ b. cond b (number_at tentative s.node) (number_at tentative s.node)) same)
@@ -211,38 +210,12 @@ started_all sources k waiting done le h = record {
 
 -- ---- degrees
 
-few_more : {Y : Type 0} (o : Option Y) (ys : List Y) (k : ℕ) → length ys ≤ k → length (cons_option o ys) ≤ k + 1
-few_more None ys k le = omega arith
-few_more (Some y) ys k le = omega arith
-
-length_filter_map : {X Y : Type 0} (f : X → Option Y) (xs : List X) → length (filter_map f xs) ≤ length xs
-length_filter_map f [] = omega arith
-length_filter_map f (x ∷ xs) = let le = few_more (f x) (filter_map f xs) (length xs) (length_filter_map f xs) in omega arith
-
-length_below : (n : ℕ) → length (below n) ≡ n
-length_below zero = refl
-length_below (suc n) = let e = length-append (below n) (n ∷ []) in let r = length_below n in omega arith
-
-pub degree_few : (g : Network) (x : ℕ) → degree_of g x ≤ g.nodes
-degree_few g x =
-    let e = length_below g.nodes in
-    let le : length (neighbours_of g x) ≤ length (below g.nodes) = length_filter_map (λ y. option_map (λ w. (y, w)) (weight_in g x y)) (below g.nodes) in
-    omega arith
-
-degrees_few : (g : Network) (k : ℕ) (order : List Settled) → g.nodes ≤ k → degrees g order ≤ length order * k
-degrees_few g k order le = sum_by-le (λ s. degree_of g s.node) k order (All-from_get_or (λ s. degree_of g s.node ≤ k) order (record { distance = 0; node = 0 }) (λ i lt. let few = degree_few g (get_or order i (record { distance = 0; node = 0 })).node in omega arith))
-
 pub degrees_push : (g : Network) (order : List Settled) (s : Settled) → degrees g (order ++ s ∷ []) ≡ degrees g order + degree_of g s.node
 degrees_push g order s = sum_by_push (λ s. degree_of g s.node) order s
 
 -- the most pops of a search: each node is a source at most once, and each has fewer neighbours than there are nodes
 abbrev pub most_pops : ℕ
 most_pops = most_nodes + most_nodes * most_nodes
-
-pub pops_fit : (g : Network) (order : List Settled) (first pops waiting : ℕ) → g.nodes ≤ most_nodes → first ≤ g.nodes → length order ≤ g.nodes → pops + waiting ≤ first + degrees g order → pops + waiting ≤ most_pops
-pops_fit g order first pops waiting few all le h =
-    let b = degrees_few g most_nodes order few in
-    omega arith
 
 pub joined_few : (b : Bool) (s : Settled) (xs ys : List Entry) → IsJoined b s xs ys → length ys ≤ length xs + 1
 joined_few true s xs ys j = let e = joined_length true s xs ys j in omega arith
@@ -277,15 +250,6 @@ tracked_by n number done order waiting queue complete within = record {
   listed = within;
   entries = All-weaker (IsEntry n number) (λ q. q.0.node < n) (λ q r. r.0) waiting queue.entries;
 }
-
-pub has_push : (y : ℕ) (order : List Settled) (s : Settled) → HasNode y order → HasNode y (order ++ s ∷ [])
-has_push y [] s h = absurd h
-has_push y (t ∷ ts) s (inl e) = inl e
-has_push y (t ∷ ts) s (inr h) = inr (has_push y ts s h)
-
-pub has_here : (y : ℕ) (order : List Settled) (s : Settled) → y ≡ s.node → HasNode y (order ++ s ∷ [])
-has_here y [] s e = inl (sym e)
-has_here y (t ∷ ts) s e = inr (has_here y ts s e)
 
 pub has_before : (y : ℕ) (order : List Settled) (s : Settled) → HasNode y (order ++ s ∷ []) → y ≢ s.node → HasNode y order
 has_before y [] s (inl e) ne = absurd (ne (sym e))

@@ -2,7 +2,7 @@
 use Rattle.std.proofs.Common.{◌≡◌, ℕ, zero, suc, ◌+◌, ◌<◌, ◌≤◌, Bool, true, false, cond, ◌&&◌, ◌≢◌, ◌⊎◌, inl, inr, List, [], ◌∷◌, ◌++◌, map, length, get_or, set, replicate, Option, Some, None, eqb, ltb, refl, sym, ap, ◌∙◌, subst, arith, get_or-set_same, get_or-set_other}
 use Rattle.std.specs.List.{All}
 use Rattle.distances.proofs.Progress.{Progress, IsNext, progress_step}
-use Rattle.std.proofs.lemmas.Bool.{cases_eq}
+use Rattle.std.proofs.lemmas.Bool.{cases_eq, and_parts}
 use Rattle.std.proofs.Math.Bool.{and-false}
 use Rattle.distances.specs.Arrivals.{is_nearer}
 use Rattle.std.proofs.lemmas.Bool.Decides.{nat_tests}
@@ -45,13 +45,9 @@ not_better : (a : ℕ) (o : Option ℕ) → is_better a o ≡ false → (e : ℕ
 not_better a None t = let e : true ≡ false = t in absurd (cc)
 not_better a (Some e) t = (e, (refl, grind (arith, nat_tests)))
 
-pub split_and : (a b : Bool) → (a && b) ≡ true → (a ≡ true) × (b ≡ true)
-split_and true b t = (refl, t)
-split_and false b t = let e : false ≡ true = t in absurd (cc)
-
 offered_falls : (limit : Option ℕ) (a e : ℕ) (o : Option ℕ) → o ≡ Some e → (f : ℕ) × ((offered limit a o ≡ Some f) × (f ≤ e))
 offered_falls limit a e o is = elim (is_below a limit && is_better a o) as (λ b. (is_below a limit && is_better a o) ≡ b → (f : ℕ) × ((cond b (Some a) o ≡ Some f) × (f ≤ e))) [
-  | true ↦ λ t. let lt = better_some a e (sym (ap (is_better a) is) ∙ (split_and _ _ t).1) in (a, (refl, omega arith))
+  | true ↦ λ t. let lt = better_some a e (sym (ap (is_better a) is) ∙ (and_parts _ _ t).1) in (a, (refl, omega arith))
   | false ↦ λ t. (e, (is, omega arith))
 ] refl
 
@@ -87,7 +83,7 @@ module _ (m : EdgeMap) (limit : ℕ → Option ℕ) (x d : ℕ) (before : ℕ �
       let at : after y ≡ offered (limit y) (d + w) (number_at tentative y) = after_is y ∙ ap (λ b. cond b (offered (limit y) (d + w) (number_at tentative y)) (number_at tentative y)) same in
       elim (is_below (d + w) (limit y) && is_better (d + w) (number_at tentative y)) as (λ b. (is_below (d + w) (limit y) && is_better (d + w) (number_at tentative y)) ≡ b → after y ≡ cond b (Some (d + w)) (number_at tentative y)
       → (after y ≡ before y) ⊎ ((v : ℕ) × ((weight_between m x y ≡ Some v) × (after y ≡ Some (d + v)) × (is_below (d + v) (limit y) ≡ true) × (is_better (d + v) (before y) ≡ true)))) [
-        | true ↦ λ t is. let both = split_and _ _ t in inr (w, (edge, is, both.0, improved None (h.changed y) both.1))
+        | true ↦ λ t is. let both = and_parts _ _ t in inr (w, (edge, is, both.0, improved None (h.changed y) both.1))
         | false ↦ λ t is. elim (h.changed y) [ inl s ↦ inl (is ∙ s) | inr v ↦ inr (v.0, (v.1.0, is ∙ v.1.1, v.1.2, v.1.3)) ]
       ] refl at
 

@@ -1,7 +1,7 @@
 -- What a scheme that keeps all rules carries a packet over is the trail under its landmarks.
-use Rattle.std.proofs.Common.{◌≡◌, inl, inr, ℕ, ◌<◌, sym, refl, ap, subst, ◌∙◌, arith, Bool, true, false, List, [], ◌∷◌, nat_lt}
+use Rattle.std.proofs.Common.{◌≡◌, inl, inr, ℕ, ◌<◌, sym, refl, ap, subst, ◌∙◌, arith, true, false, List, [], ◌∷◌, nat_lt}
 use Rattle.std.specs.Prelude.{Option, Some, None, Result, Ok, Err}
-use Rattle.std.proofs.lemmas.Bool.{lt-ltb}
+use Rattle.std.proofs.lemmas.Bool.{lt-ltb, false_from_ne_true}
 use Rattle.heavy_labels.specs.Label.{Label}
 use Rattle.graph_edits.specs.Edges.{Network, IsSound}
 use Rattle.graph_edits.specs.Walks.{IsWalk, walk_length, IsLeast}
@@ -65,9 +65,6 @@ same_sent e f = cc
 never_sent : {X : Type 0} {a : Packet} {r : Refused} {o : Result Packet Refused} → o ≡ Ok a → o ≡ Err r → X
 never_sent {a = a} {r = r} e f = absurd (let same : ◌≡◌ {A = Result Packet Refused} (Ok a) (Err r) = sym e ∙ f in cc)
 
-not_true_false : {b : Bool} → b ≡ true → b ≡ false → ⊥
-not_true_false e f = cc
-
 module _ (m : Network) (p : Parts) (sound : IsSound m) (checked : IsChecked m p) where
   laws : TableLaws m (tables p)
   laws = laws_of m sound p checked
@@ -76,11 +73,7 @@ module _ (m : Network) (p : Parts) (sound : IsSound m) (checked : IsChecked m p)
   inside x i = lt-ltb x (tables p).nodes (subst (λ n. x < n) (sym laws.ports.nodes) i)
 
   flag_false : (x : ℕ) → (IsLandmark p.landmarks.items x → ⊥) → (tables p).landmark x ≡ false
-  flag_false x none = by ((tables p).landmark x) refl
-    where
-      by : (b : Bool) → (tables p).landmark x ≡ b → (tables p).landmark x ≡ false
-      by true e = absurd (none (is_landmark m p sound checked x e))
-      by false e = e
+  flag_false x none = false_from_ne_true ((tables p).landmark x) (λ e. none (is_landmark m p sound checked x e))
 
   no_listed : (u v : ℕ) (l : Label) → (tables p).landmark u ≡ true → (tables p).listed u v ≡ Some l → u < m.nodes → ⊥
   no_listed u v l t g i = let rule : HasDirectories m p = checked k8 in not_none g (ap (first_listed v) (rule.landmarks u t))

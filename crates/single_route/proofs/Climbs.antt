@@ -1,9 +1,9 @@
 -- Climbs from parent to parent, where a node has one parent, which is nearer to the root.
-use Rattle.std.proofs.Common.{◌≡◌, ◌≢◌, ◌⊎◌, inl, inr, ℕ, zero, suc, ◌+◌, ◌<◌, ◌≤◌, Bool, true, false, List, [], ◌∷◌, ◌++◌, length, reverse, refl, sym, ap, ◌∙◌, subst, arith, append_assoc, eqb}
+use Rattle.std.proofs.Common.{◌≡◌, ◌≢◌, ◌⊎◌, inl, inr, ℕ, zero, suc, ◌+◌, ◌<◌, ◌≤◌, false, List, [], ◌∷◌, ◌++◌, length, reverse, refl, sym, ap, ◌∙◌, subst, arith, append_assoc, eqb}
 use Rattle.std.specs.List.{Contains, IsDistinct, AllByRecursion}
-use Rattle.std.proofs.lemmas.List.{append-nil}
+use Rattle.std.proofs.lemmas.List.{append-nil, nil_from_length}
 use Rattle.std.proofs.lemmas.List.Elements.{Contains-append_right, Contains-append_cases}
-use Rattle.std.proofs.lemmas.Bool.{eqb-true}
+use Rattle.std.proofs.lemmas.Bool.{ne_eqb}
 use Rattle.single_route.specs.LandmarkTrails.{IsClimb, IsTreePath}
 use Rattle.single_route.specs.ListedLines.{LastsDiffer}
 
@@ -14,15 +14,7 @@ has_last x (z ∷ zs) = let r = has_last z zs in (x ∷ r.0, (r.1.0, ap (λ k. x
 
 -- an empty list, by its length
 none_left : (xs : List ℕ) → length xs ≤ 0 → xs ≡ []
-none_left [] h = refl
-none_left (x ∷ xs) h = absurd (omega (arith, h))
-
-not_equal : (a b : ℕ) → a ≢ b → eqb a b ≡ false
-not_equal a b ne = by (eqb a b) refl
-  where
-    by : (t : Bool) → eqb a b ≡ t → eqb a b ≡ false
-    by true e = absurd (ne (eqb-true a b e))
-    by false e = e
+none_left xs h = nil_from_length xs (omega (arith, h))
 
 -- where x is an element, the list is what stands before it and what stands behind
 pub split_at : (xs : List ℕ) (x : ℕ) → Contains xs x → (front : List ℕ) × ((back : List ℕ) × (xs ≡ front ++ x ∷ back))
@@ -32,7 +24,7 @@ split_at (y ∷ ys) x (suc k, lt, e) = let r = split_at ys x (k, omega (arith, l
 
 all_apart : (x : ℕ) (xs : List ℕ) → ((y : ℕ) → Contains xs y → x ≢ y) → AllByRecursion (λ y. eqb x y ≡ false) xs
 all_apart x [] h = tt
-all_apart x (y ∷ ys) h = (not_equal x y (h y (0, omega arith, refl)), all_apart x ys (λ z c. h z (Contains-append_right (y ∷ []) ys z c)))
+all_apart x (y ∷ ys) h = (ne_eqb x y (h y (0, omega arith, refl)), all_apart x ys (λ z c. h z (Contains-append_right (y ∷ []) ys z c)))
 
 module _ (Parent : ℕ → ℕ → Type 0) (At : ℕ → ℕ → Type 0)
     (one : (x y z : ℕ) → Parent x y → Parent x z → y ≡ z)

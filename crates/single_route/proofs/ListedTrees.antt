@@ -1,15 +1,15 @@
 -- Lines of ancestors, by the parents that a tree's list of members has.
-use Rattle.std.proofs.Common.{◌≡◌, ◌≢◌, inl, inr, ℕ, zero, suc, ◌==◌, Bool, true, false, List, [], ◌∷◌, ◌++◌, length, reverse, refl, sym, ap, ◌∙◌, subst, arith, append_assoc}
+use Rattle.std.proofs.Common.{◌≡◌, ◌≢◌, inl, inr, ℕ, zero, suc, ◌==◌, true, false, List, [], ◌∷◌, ◌++◌, reverse, refl, sym, ap, ◌∙◌, subst, arith, append_assoc}
 use Rattle.std.specs.Prelude.{Option, Some, None, IfSome}
 use Rattle.std.specs.List.{Contains, list_any}
 use Rattle.std.proofs.lemmas.List.{append-nil, map-append}
 use Rattle.std.proofs.lemmas.List.Elements.{Contains-append_right}
 use Rattle.std.proofs.lemmas.Option.{same_Some, none-some}
-use Rattle.std.proofs.lemmas.Bool.{eqb-true, eq-eqb}
+use Rattle.std.proofs.lemmas.Bool.{eqb-true, eqb-false, false≢true, or_cases, or_parts}
 use Rattle.distances.specs.declared.reach.Reached.{Reached}
 use Rattle.distances.specs.declared.linked.Linked.{Linked}
 use Rattle.distances.specs.Workspace.{reached_of}
-use Rattle.single_route.specs.ListedLines.{HasMember, AreParentsBefore, HasOneRoot, IsAbove, IsLine, LastsDiffer, IsFork, IsListedPath}
+use Rattle.single_route.specs.ListedLines.{HasMember, AreParentsBefore, HasOneRoot, IsAbove, IsLine, IsFork, IsListedPath}
 
 -- ---- members
 
@@ -31,22 +31,14 @@ has_before x (j ∷ js) k (inr h) ne = inr (has_before x js k h ne)
 
 -- a search of the members finds one
 pub any_has : (x : ℕ) (members : List Linked) → list_any (λ k. k.reached.node == x) members ≡ true → HasMember x (reached_of members)
-any_has x [] e = absurd (let k : false ≡ true = e in cc)
-any_has x (k ∷ ks) e = by (λ t. any_has x ks t) (k.reached.node == x) refl
-  where
-    by : (list_any (λ k. k.reached.node == x) ks ≡ true → HasMember x (reached_of ks)) → (b : Bool) → (k.reached.node == x) ≡ b → HasMember x (reached_of (k ∷ ks))
-    by rest true t = inl (eqb-true k.reached.node x t)
-    by rest false t = inr (rest (rw t at e))
+any_has x [] e = absurd (false≢true e)
+any_has x (k ∷ ks) e = elim (or_cases (k.reached.node == x) (list_any (λ k. k.reached.node == x) ks) e) [ inl t ↦ inl (eqb-true k.reached.node x t) | inr t ↦ inr (any_has x ks t) ]
 
 -- and where it finds none there is none
 pub any_lacks : (x : ℕ) (members : List Linked) → list_any (λ k. k.reached.node == x) members ≡ false → HasMember x (reached_of members) → ⊥
 any_lacks x [] e h = h
-any_lacks x (k ∷ ks) e h = by (λ t r. any_lacks x ks t r) (k.reached.node == x) refl h
-  where
-    by : (list_any (λ k. k.reached.node == x) ks ≡ false → HasMember x (reached_of ks) → ⊥) → (b : Bool) → (k.reached.node == x) ≡ b → HasMember x (reached_of (k ∷ ks)) → ⊥
-    by rest true t h = let bad : true ≡ false = rw t at e in cc
-    by rest false t (inl is) = let same : true ≡ false = sym (eq-eqb k.reached.node x is) ∙ t in cc
-    by rest false t (inr h) = rest (rw t at e) h
+any_lacks x (k ∷ ks) e (inl is) = eqb-false k.reached.node x (or_parts (k.reached.node == x) (list_any (λ k. k.reached.node == x) ks) e).0 is
+any_lacks x (k ∷ ks) e (inr h) = any_lacks x ks (or_parts (k.reached.node == x) (list_any (λ k. k.reached.node == x) ks) e).1 h
 
 -- ---- lines
 
@@ -64,9 +56,6 @@ pub record IsClimbing (tree left : List Reached) (node : ℕ) (line : List ℕ) 
   pub inside : (done : List Reached) × (tree ≡ left ++ done)
   pub stands : IfSome above (λ y. HasMember y left)
   pub line_is : IsLine tree (Some node) line above
-
-pub climbing_start : (tree : List Reached) (node : ℕ) → AreParentsBefore tree → HasMember node tree → IsClimbing tree tree node [] (Some node)
-climbing_start tree node before has = record { before = before; inside = ([], sym (append-nil tree)); stands = has; line_is = refl }
 
 fewer_before : (left front : List Reached) (k : Reached) → left ≡ front ++ k ∷ [] → AreParentsBefore left → AreParentsBefore front
 fewer_before left front k is h f b j e = h f (b ++ k ∷ []) j (is ∙ ap (λ z. z ++ k ∷ []) e ∙ append_assoc f (j ∷ b) (k ∷ []))
@@ -98,28 +87,10 @@ climbing_past tree left front node line (Some y) k is ne h = record {
   line_is = h.line_is;
 }
 
--- where none is left, nothing is sought
-pub climbing_end : (tree left : List Reached) (node : ℕ) (line : List ℕ) (above : Option ℕ) → left ≡ [] → IsClimbing tree left node line above → IsLine tree (Some node) line None
-climbing_end tree left node line None e h = h.line_is
-climbing_end tree left node line (Some y) e h = absurd (subst (HasMember y) e h.stands)
-
 pub reached_push : (members before : List Linked) (k : Linked) → members ≡ before ++ k ∷ [] → reached_of members ≡ reached_of before ++ k.reached ∷ []
 reached_push members before k e = ap reached_of e ∙ map-append (λ (m : Linked). m.reached) before (k ∷ [])
 
-pub none_of : {X : Type 0} (xs : List X) → length xs ≡ 0 → xs ≡ []
-none_of [] e = refl
-none_of (x ∷ xs) e = absurd (omega (arith, e))
-
 -- ---- what two lines end with
-
-last_or : ℕ → List ℕ → ℕ
-last_or d [] = d
-last_or d (x ∷ xs) = last_or x xs
-
-last_push : (d : ℕ) (xs : List ℕ) (x : ℕ) → last_or d (xs ++ x ∷ []) ≡ x
-unfolding last_or
-last_push d [] x = refl
-last_push d (y ∷ ys) x = last_push y ys x
 
 -- two lists up to what they both end with
 pub record IsForking (up down up_left down_left : List ℕ) (first : Option ℕ) : Type 0 where
@@ -127,39 +98,6 @@ pub record IsForking (up down up_left down_left : List ℕ) (first : Option ℕ)
   pub up_is : up ≡ up_left ++ common
   pub down_is : down ≡ down_left ++ common
   pub begins : first ≡ elim common [ [] ↦ None | x ∷ xs ↦ Some x ]
-
-pub forking_start : (up down : List ℕ) → IsForking up down up down None
-forking_start up down = record { common = []; up_is = sym (append-nil up); down_is = sym (append-nil down); begins = refl }
-
-pub forking_more : (up down up_left down_left up_next down_next : List ℕ) (first : Option ℕ) (x y : ℕ) → up_left ≡ up_next ++ x ∷ [] → down_left ≡ down_next ++ y ∷ [] → x ≡ y
-    → IsForking up down up_left down_left first → IsForking up down up_next down_next (Some x)
-forking_more up down up_left down_left up_next down_next first x y a b same h = record {
-  common = x ∷ h.common;
-  up_is = h.up_is ∙ ap (λ z. z ++ h.common) a ∙ append_assoc up_next (x ∷ []) h.common;
-  down_is = h.down_is ∙ ap (λ z. z ++ h.common) (b ∙ ap (λ z. down_next ++ z ∷ []) (sym same)) ∙ append_assoc down_next (x ∷ []) h.common;
-  begins = refl;
-}
-
-forked : (up down up_left down_left : List ℕ) (first : Option ℕ) → IsForking up down up_left down_left first → LastsDiffer up_left down_left → IsFork up down up_left down_left first
-forked up down up_left down_left first h differ = record { common = h.common; up_is = h.up_is; down_is = h.down_is; differ = differ; begins = h.begins }
-
-pub forked_apart : (up down up_left down_left up_next down_next : List ℕ) (first : Option ℕ) (x y : ℕ) → up_left ≡ up_next ++ x ∷ [] → down_left ≡ down_next ++ y ∷ [] → x ≢ y
-    → IsForking up down up_left down_left first → IsFork up down up_left down_left first
-forked_apart up down up_left down_left up_next down_next first x y a b ne h =
-    forked up down up_left down_left first h (λ z xs ys e f.
-    let p : x ≡ z = sym (last_push 0 up_next x) ∙ ap (last_or 0) (sym a ∙ e) ∙ last_push 0 xs z in
-    let q : y ≡ z = sym (last_push 0 down_next y) ∙ ap (last_or 0) (sym b ∙ f) ∙ last_push 0 ys z in
-    ne (p ∙ sym q))
-
-no_last : (xs : List ℕ) (x : ℕ) → [] ≡ xs ++ x ∷ [] → ⊥
-no_last [] x e = cc
-no_last (y ∷ ys) x e = cc
-
-pub forked_up : (up down up_left down_left : List ℕ) (first : Option ℕ) → length up_left ≡ 0 → IsForking up down up_left down_left first → IsFork up down up_left down_left first
-forked_up up down up_left down_left first e h = forked up down up_left down_left first h (λ z xs ys p q. no_last xs z (sym (none_of up_left e) ∙ p))
-
-pub forked_down : (up down up_left down_left : List ℕ) (first : Option ℕ) → length down_left ≡ 0 → IsForking up down up_left down_left first → IsFork up down up_left down_left first
-forked_down up down up_left down_left first e h = forked up down up_left down_left first h (λ z xs ys p q. no_last ys z (sym (none_of down_left e) ∙ q))
 
 -- ---- paths
 

@@ -1,8 +1,8 @@
 -- The way of a packet in a scheme's tree is the path in the tree of the network.
 use Rattle.std.proofs.Common.{◌≡◌, inl, inr, ℕ, zero, suc, append_assoc, ◌+◌, ◌-◌, ◌≤◌, ◌<◌, sym, refl, ap, subst, ◌∙◌, arith, Bool, true, false, List, [], ◌∷◌, ◌++◌, map, length, length-append, reverse}
 use Rattle.std.specs.Prelude.{Some, slice_get, slice_index_or}
-use Rattle.std.proofs.lemmas.List.{reverse-append, length-reverse, reverse-reverse, map-append}
-use Rattle.std.proofs.lemmas.Bool.{cases_lt}
+use Rattle.std.proofs.lemmas.List.{reverse-append, length-reverse, reverse-reverse, map-append, get_or_past}
+use Rattle.std.proofs.lemmas.Bool.{cases_lt, false≢true}
 use Rattle.route_tree.specs.Rose.{count, tree_size}
 use Rattle.heavy_labels.specs.Label.{Label}
 use Rattle.heavy_labels.specs.Numbering.{Record, Line, Place, Follows, Way, arrived, port, step}
@@ -41,9 +41,7 @@ flag_same (b ∷ bs) zero = refl
 flag_same (b ∷ bs) (suc x) = flag_same bs x
 
 pub flag_inside : (flags : List Bool) (x : ℕ) → slice_index_or flags x false ≡ true → x < length flags
-flag_inside [] x e = absurd (let k : false ≡ true = e in cc)
-flag_inside (b ∷ bs) zero e = omega arith
-flag_inside (b ∷ bs) (suc x) e = let ih = flag_inside bs x e in omega (arith, ih)
+flag_inside flags x e = elim (cases_lt x (length flags)) [ inl l ↦ l | inr le ↦ absurd (false≢true (sym (get_or_past flags x false le) ∙ e)) ]
 
 -- ---- entries and members
 

@@ -81,9 +81,6 @@ module _ (m : EdgeMap) (flags : List Bool) where
       let round = IsWalk-join m near.landmark a.1.1.0 v back.0 u there back.1.0 in
       none_least m near.landmark u (λ d least. none (let k = t.complete u d least refl in has_of u tree k.0 k.1.0 k.1.1)) (a.1.1.0 ++ back.0) round.0
 
-  pub no_landmark : (u v : ℕ) → (IsInOwnTree m flags u v → ⊥) → IsNearestOf m flags v None → (xs : List ℕ) → IsWalk m u xs v → ⊥
-  no_landmark u v other n xs walk = other (λ l. n (u, (l, (xs, walk))), (xs, (walk, λ a ys l w. absurd (n (a, (l, (ys, w)))))))
-
 -- a node that is no landmark is in its own tree
 pub centre : (g : Network) (flags : List Bool) (nearest : List (Option Near)) (u : ℕ) (tree : List Reached) → IsSound g → ((v : ℕ) → IsNearestOf g.edges flags v (slice_index_or nearest v None)) → (IsLandmark flags u → ⊥)
     → IsTree g.edges u (near_limit nearest) tree → HasMember u tree

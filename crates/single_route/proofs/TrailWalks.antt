@@ -64,12 +64,6 @@ module _ (m : Network) (sound : IsSound m) (flags : List Bool) (r : ℕ) where
       let l : walk_length m.edges at (reverse (x ∷ xs)) ≡ walk_length m.edges at (reverse xs ++ x ∷ []) = ap (walk_length m.edges at) turned in
       (subst (λ y. IsWalk m.edges at y v) (sym turned) (subst (IsWalk m.edges at (reverse xs ++ x ∷ [])) (sym c.0) p.0), (let g = ih.1 in let h = p.1 in omega (arith, g, h, k, s, l)))
 
-  -- every node of a climb is a member
-  climb_member : (u : ℕ) (up : List ℕ) (at d : ℕ) → IsClimb (IsParentIn m.edges flags r) u up at → IsMemberAt m.edges flags r u d → (x : ℕ) → Contains up x → (e : ℕ) × IsMemberAt m.edges flags r x e
-  climb_member u [] at d c a x has = absurd (let lt = has.1 in omega (arith, lt))
-  climb_member u (y ∷ ys) at d c a x (zero, lt, is) = (d, subst (λ z. IsMemberAt m.edges flags r z d) (c.0 ∙ is) a)
-  climb_member u (y ∷ ys) at d c a x (suc k, lt, is) = climb_member c.1.0 ys at c.1.1.0.tight.before c.1.1.1 c.1.1.0.tight.above x (k, omega (arith, lt), is)
-
   -- what the path of two members is: a walk no longer than both distances together, with no node twice
   pub record PathWalk (u v d e : ℕ) (nodes : List ℕ) : Type 0 where
     pub rest : List ℕ

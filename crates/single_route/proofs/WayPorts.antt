@@ -1,16 +1,15 @@
 -- The ports along a way.
 use Rattle.std.proofs.Common.{◌≡◌, ℕ, ◌+◌, ◌-◌, ◌*◌, ◌^◌, ◌≤◌, min, List, [], ◌∷◌, ◌++◌, length, refl, sym, ap, ◌∙◌, subst, arith}
-use Rattle.std.specs.Prelude.{Option, Some, None, IsSome, slice_get}
-use Rattle.std.proofs.Common.{true, false}
+use Rattle.std.specs.Prelude.{Some, slice_get}
 use Rattle.std.specs.Option.{option_map, unwrap_or}
 use Rattle.std.proofs.lemmas.Option.{slice_get-get_or, same_Some}
-use Rattle.std.proofs.Common.{append_assoc}
 use Rattle.std.proofs.lemmas.List.{append-nil}
 use Rattle.graph_edits.specs.Edges.{Network, IsSound, weight_in, neighbours_of, over_port, greatest_weight}
 use Rattle.graph_edits.specs.Laws.{Contains-neighbours_of}
 use Rattle.graph_edits.specs.Walks.{walk_length, IsWalk}
 use Rattle.distances.proofs.Arrived.{port_both}
 use Rattle.schemes.specs.Service.{LeadAlong}
+use Rattle.schemes.proofs.Basics.Options.{is_there}
 use Rattle.single_route.specs.Ways.{AreHops}
 
 -- a neighbour stands behind some port
@@ -41,12 +40,10 @@ pub short_hops : (g : Network) → IsSound g → (x : ℕ) (ys : List ℕ) → A
 short_hops g sound x [] h = omega arith
 short_hops g sound x (y ∷ ys) h =
     let ih = short_hops g sound y ys h.1 in
-    let w = weight_most (weight_in g x y) refl h.0 in
-    omega (arith, ih, w)
-  where
-    weight_most : (o : Option ℕ) → weight_in g x y ≡ o → IsSome o → unwrap_or (weight_in g x y) 0 ≤ greatest_weight
-    weight_most None e s = absurd (let k : false ≡ true = s in cc)
-    weight_most (Some w) e s = let k : unwrap_or (weight_in g x y) 0 ≡ w = ap (λ o. unwrap_or o 0) e in let l = (sound.weighted x y w e).1 in omega (arith, k, l)
+    let c = is_there (weight_in g x y) h.0 in
+    let w = ap (λ o. unwrap_or o 0) c.1 in
+    let most = (sound.weighted x y c.0 c.1).1 in
+    omega (arith, ih, w, most)
 
 -- a way from `first` over the nodes of a list, measured up to the node `at`, behind which those of `left` are still to come
 pub record IsMeasuring (g : Network) (first : ℕ) (rest left ports : List ℕ) (length at : ℕ) : Type 0 where
@@ -54,28 +51,6 @@ pub record IsMeasuring (g : Network) (first : ℕ) (rest left ports : List ℕ) 
   pub leads : (qs : List ℕ) → LeadAlong g at left qs → LeadAlong g first rest (ports ++ qs)
   pub sum : min (length + walk_length g.edges at left) (2 ^ 64 - 1) ≡ min (walk_length g.edges first rest) (2 ^ 64 - 1)
   pub fits : length ≤ 2 ^ 64 - 1
-
-pub measuring_start : (g : Network) (first : ℕ) (rest : List ℕ) → AreHops g first rest → IsMeasuring g first rest rest [] 0 first
-measuring_start g first rest h = record { hops = h; leads = λ qs l. l; sum = omega arith; fits = omega arith }
-
-pub measuring_next : (g : Network) (first : ℕ) (rest left ports : List ℕ) (len at next port w : ℕ) (left2 ports2 : List ℕ) (len2 : ℕ) → left ≡ next ∷ left2 → over_port g at port ≡ Some next → weight_in g at next ≡ Some w
-    → ports2 ≡ ports ++ port ∷ [] → len2 ≡ min (len + w) (2 ^ 64 - 1) → IsMeasuring g first rest left ports len at → IsMeasuring g first rest left2 ports2 len2 next
-measuring_next g first rest left ports len at next port w left2 ports2 len2 split behind weight more long h =
-    let hops = subst (AreHops g at) split h.hops in
-    let known : unwrap_or (weight_in g at next) 0 ≡ w = ap (λ o. unwrap_or o 0) weight in
-    let whole : walk_length g.edges at left ≡ unwrap_or (weight_in g at next) 0 + walk_length g.edges next left2 = ap (walk_length g.edges at) split in
-    let sum = h.sum in
-    record {
-      hops = hops.1;
-      leads = λ qs l.
-          let k = h.leads (port ∷ qs) (subst (λ z. LeadAlong g at z (port ∷ qs)) (sym split) (behind, l)) in
-          subst (LeadAlong g first rest) (sym (ap (λ z. z ++ qs) more ∙ append_assoc ports (port ∷ []) qs)) k;
-      sum = capped len w (walk_length g.edges next left2) (walk_length g.edges at left) (walk_length g.edges first rest) len2 (2 ^ 64 - 1) long (whole ∙ ap (λ z. z + walk_length g.edges next left2) known) sum;
-      fits = (let k : len2 ≤ 2 ^ 64 - 1 = omega (arith, long) in k);
-    }
-  where
-    capped : (len w tail both total len2 cap : ℕ) → len2 ≡ min (len + w) cap → both ≡ w + tail → min (len + both) cap ≡ min total cap → min (len2 + tail) cap ≡ min total cap
-    capped len w tail both total len2 cap a b c = omega (arith, a, b, c)
 
 pub measuring_end : (g : Network) (first : ℕ) (rest left ports : List ℕ) (len at : ℕ) → left ≡ [] → IsMeasuring g first rest left ports len at → LeadAlong g first rest ports × (len ≡ min (walk_length g.edges first rest) (2 ^ 64 - 1))
 measuring_end g first rest left ports len at none h =

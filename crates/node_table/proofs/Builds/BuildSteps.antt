@@ -1,15 +1,15 @@
 -- Steps of a build: lists at places, entries and home labels of one more row, and the limits of trees.
-use Rattle.std.proofs.Common.{◌≡◌, ℕ, zero, suc, ◌+◌, ◌<◌, ◌≤◌, ◌==◌, Bool, true, false, cond, nat_lt, sym, refl, ap, subst, ◌∙◌, arith, List, [], ◌∷◌, ◌++◌, length, map, take, get_or, append_assoc, add-one, IsPermutation}
-use Rattle.std.specs.Prelude.{Option, Some, None, Result, Ok, Err, OnOk, nat_eq, slice_index, slice_index_or}
+use Rattle.std.proofs.Common.{◌≡◌, ℕ, zero, suc, ◌+◌, ◌<◌, ◌≤◌, ◌==◌, Bool, true, false, cond, sym, refl, ap, subst, ◌∙◌, arith, List, [], ◌∷◌, ◌++◌, length, map, take, get_or, append_assoc, IsPermutation}
+use Rattle.std.specs.Prelude.{Option, Some, None, nat_eq, slice_index, slice_index_or}
 use Rattle.std.specs.List.{IsDistinct}
 use Rattle.std.specs.List.Sorted.{IsNonDecreasingBy}
-use Rattle.std.proofs.lemmas.List.{get_or-map, map-append}
+use Rattle.std.proofs.lemmas.List.{get_or-map, map-append, append-nil, length-map, take_more}
 use Rattle.std.proofs.lemmas.List.Sorted.{IsPermutation-map}
 use Rattle.std.proofs.lemmas.Map.Keys.{IsDistinct-IsPermutation, IsDistinct-head, IsDistinct-tail}
 use Rattle.std.proofs.Math.ListN.{set}
-use Rattle.std.proofs.lemmas.Bool.Decides.{nat_tests}
-use Rattle.std.proofs.lemmas.Bool.{eqb-true, eq-eqb}
+use Rattle.std.proofs.lemmas.Bool.{eqb-true, eq-eqb, both_ways, cond_both, eqb-false, false_from_ne_true, lt-ltb}
 use Rattle.std.specs.declared.vec.Vec.{Vec}
+use Rattle.std.proofs.lemmas.Simd.{map-map}
 use Rattle.graph_edits.specs.Edges.{Network, IsSound}
 use Rattle.landmarks.specs.Chosen.{IsLandmark}
 use Rattle.distances.specs.Search.{is_below}
@@ -28,40 +28,18 @@ use Rattle.node_table.proofs.Builds.MadeRows.{listed_row}
 use Rattle.node_table.proofs.Builds.RowColumns.{flips}
 use Rattle.node_table.proofs.Builds.Built.{zero_walk}
 
--- what follows where a value is there
-pub on_ok : {X E : Type 0} (P Q : Type 0) (r : Result X E) → (P → Q) → OnOk r P → OnOk r Q
-on_ok P Q (Ok x) f h = f h
-on_ok P Q (Err e) f h = h
-
 -- ---- lists at places
-
-append_nil : {X : Type 0} (xs : List X) → xs ≡ xs ++ []
-append_nil [] = refl
-append_nil (x ∷ xs) = ap (λ z. x ∷ z) (append_nil xs)
-
-not_both : {b : Bool} → b ≡ true → b ≡ false → ⊥
-not_both p q = cc
 
 pub pushed_at : (A : Type 0) (vs : List (Vec Entry A)) (i : ℕ) (old new : Vec Entry A) (e : Entry) → i < length vs → old ≡ get_or vs i old → new.items ≡ old.items ++ e ∷ []
     → (x : ℕ) → items_at (set vs i new) x ≡ items_at vs x ++ cond (i == x) (e ∷ []) []
-pushed_at A vs i old new e l is more x = go (i == x) refl
-  where
-    go : (b : Bool) → (i == x) ≡ b → items_at (set vs i new) x ≡ items_at vs x ++ cond b (e ∷ []) []
-    go true t =
-        let s = eqb-true i x t in
-        subst (λ z. items_at (set vs i new) z ≡ items_at vs z ++ e ∷ []) s
-        (items_set vs i new l ∙ more ∙ ap (λ z. z ++ e ∷ []) (items_read vs i old l is))
-    go false t = items_other vs i x new (λ s. not_both (eq-eqb i x (sym s)) t) ∙ append_nil (items_at vs x)
+pushed_at A vs i old new e l is more x = cond_both (i == x) (e ∷ []) [] (λ es. items_at (set vs i new) x ≡ items_at vs x ++ es)
+    (λ t. subst (λ z. items_at (set vs i new) z ≡ items_at vs z ++ e ∷ []) (eqb-true i x t) (items_set vs i new l ∙ more ∙ ap (λ z. z ++ e ∷ []) (items_read vs i old l is)))
+    (λ t. items_other vs i x new (λ s. eqb-false i x t (sym s)) ∙ sym (append-nil (items_at vs x)))
 
 -- ---- one numbered member more
 
 take_next : {X : Type 0} (xs : List X) (i : ℕ) (x : X) → i < length xs → x ≡ get_or xs i x → take (i + 1) xs ≡ take i xs ++ x ∷ []
-take_next {X = X} xs i x l e = ap (λ k. take k xs) (add-one i) ∙ go xs i l e
-  where
-    go : (xs : List X) (i : ℕ) → i < length xs → x ≡ get_or xs i x → take (suc i) xs ≡ take i xs ++ x ∷ []
-    go [] i l e = absurd (omega (arith, l))
-    go (y ∷ ys) zero l e = ap (λ z. z ∷ []) (sym e)
-    go (y ∷ ys) (suc i) l e = ap (λ z. y ∷ z) (go ys i (omega (arith, l)) e)
+take_next xs i x l e = take_more xs i x l ∙ ap (λ z. take i xs ++ z ∷ []) (sym e)
 
 map_next : {X Y : Type 0} (f : X → Y) (xs : List X) (i : ℕ) (x : X) → i < length xs → x ≡ get_or xs i x → map f (take (i + 1) xs) ≡ map f (take i xs) ++ f x ∷ []
 map_next f xs i x l e = ap (map f) (take_next xs i x l e) ∙ map-append f (take i xs) (x ∷ [])
@@ -105,18 +83,16 @@ near_is (o ∷ nearest) (suc i) = near_is nearest i
 -- ---- the directory of a root
 
 nodes_listed : (ns : List NumberedMember) → nodes_of (map listed_member ns) ≡ nodes_numbered ns
-nodes_listed [] = refl
-nodes_listed (n ∷ ns) = ap (λ z. n.node ∷ z) (nodes_listed ns)
+nodes_listed ns = map-map (λ (l : Listed). l.node) listed_member ns
 
 -- rows are listed as what was numbered is
 pub rows_listed : (r : ℕ) (ks : List Linked) (table : List ℕ) (ns : List NumberedMember) → map listed_row (rows_by r ks table ns) ≡ map listed_member ns
-rows_listed r ks table [] = refl
-rows_listed r ks table (n ∷ ns) = ap (λ z. listed_member n ∷ z) (rows_listed r ks table ns)
+rows_listed r ks table ns = map-map listed_row (row_by r ks table) ns
 
 neighbours_apart : (xs : List ℕ) → IsDistinct nat_eq xs → (k : ℕ) → k + 1 < length xs → slice_index xs k ≡ slice_index xs (k + 1) → ⊥
 neighbours_apart [] d k l e = omega (arith, l)
 neighbours_apart (x ∷ []) d k l e = omega (arith, l)
-neighbours_apart (x ∷ y ∷ xs) d zero l e = not_both (eq-eqb x y e) (IsDistinct-head nat_eq x (y ∷ xs) d).0
+neighbours_apart (x ∷ y ∷ xs) d zero l e = both_ways (x == y) (IsDistinct-head nat_eq x (y ∷ xs) d).0 (eq-eqb x y e)
 neighbours_apart (x ∷ y ∷ xs) d (suc k) l e =
     let q : suc k + 1 ≡ suc (k + 1) = omega arith in
     neighbours_apart (y ∷ xs) (IsDistinct-tail nat_eq x (y ∷ xs) d) k (omega (arith, l)) (e ∙ ap (slice_index (x ∷ y ∷ xs)) q)
@@ -124,15 +100,11 @@ neighbours_apart (x ∷ y ∷ xs) d (suc k) l e =
 nodes_rise : (es : List Listed) → IsNonDecreasingBy (λ (e : Listed). e.node) es → (k : ℕ) → k + 1 < length (nodes_of es) → slice_index (nodes_of es) k ≤ slice_index (nodes_of es) (k + 1)
 nodes_rise [] h k l = absurd (omega (arith, l))
 nodes_rise (f ∷ es) h k l =
-    let n = as_many (f ∷ es) in
+    let n = length-map (f ∷ es) (λ (e : Listed). e.node) in
     let a = get_or-map (λ (e : Listed). e.node) (f ∷ es) k f 0 (omega (arith, l, n)) in
     let b = get_or-map (λ (e : Listed). e.node) (f ∷ es) (k + 1) f 0 (omega (arith, l, n)) in
     let up = h k (k + 1) f (omega arith) (omega (arith, l, n)) in
     omega (arith, a, b, up)
-  where
-    as_many : (xs : List Listed) → length (nodes_of xs) ≡ length xs
-    as_many [] = refl
-    as_many (x ∷ xs) = omega (arith, as_many xs)
 
 -- numbered members that are listed and sorted are the directory
 pub directory_of : (ns : List NumberedMember) (before after : List Listed) → before ≡ map listed_member ns → IsPermutation before after → IsNonDecreasingBy (λ (e : Listed). e.node) after → IsDistinct nat_eq (nodes_numbered ns) → IsDirectoryOf (map listed_member ns) after
@@ -156,17 +128,13 @@ pub cluster_within : (m : Network) → IsSound m → (flags : List Bool) (neares
     → is_below 0 (near_limit nearest r) ≡ true
 cluster_within m s flags nearest r h none = go (slice_index_or nearest r None) refl
   where
-    positive : (n : ℕ) → (n ≡ 0 → ⊥) → nat_lt 0 n ≡ true
-    positive zero f = absurd (f refl)
-    positive (suc n) f = grind (arith, nat_tests)
-
     go : (o : Option Near) → slice_index_or nearest r None ≡ o → is_below 0 (near_limit nearest r) ≡ true
     go None e = rw e refl
-    go (Some q) e = rw e (positive q.distance (λ z. (
+    go (Some q) e =
         let k = subst (IsNearestOf m.edges flags r) e (h r) in
         let at = k.2.attained in
-        let same : q.landmark ≡ r = sym at.1.0 ∙ zero_walk m s at.0 at.1.1.0 r at.1.1.1.0 (at.1.1.1.1 ∙ z) in
-        none (subst (IsLandmark flags) same k.1))))
+        let far : q.distance ≡ 0 → ⊥ = λ z. none (subst (IsLandmark flags) (sym at.1.0 ∙ zero_walk m s at.0 at.1.1.0 r at.1.1.1.0 (at.1.1.1.1 ∙ z)) k.1) in
+        rw e (lt-ltb 0 q.distance (omega (arith, far)))
 
 pub added_more : (A : Type 0) (old now new : List (Vec Entry A)) (r : ℕ) (ks : List Linked) (table : List ℕ) (ns : List NumberedMember) (i : ℕ) (n : NumberedMember) (entry : Entry) → i < length ns → n ≡ get_or ns i n
     → entry ≡ entry_by r ks table n → ((x : ℕ) → items_at now x ≡ items_at old x ++ entries_for x (rows_by r ks table (take i ns)))
@@ -186,8 +154,4 @@ homes_more nearest r ns i n old now new near l e is h k v =
     (k v ∙ ap (λ z. cond (n.node == v) (home_by near r n.label z) z) (h v))
 
 pub flag_false : (flags : List Bool) (r : ℕ) → (IsLandmark flags r → ⊥) → slice_index_or flags r false ≡ false
-flag_false flags r none = go (slice_index_or flags r false) refl
-  where
-    go : (b : Bool) → slice_index_or flags r false ≡ b → b ≡ false
-    go false e = refl
-    go true e = absurd (none e)
+flag_false flags r none = false_from_ne_true (slice_index_or flags r false) none

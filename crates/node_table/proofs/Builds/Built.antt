@@ -1,10 +1,10 @@
 -- Tables that hold the trees of all roots keep the rules.
-use Rattle.std.proofs.Common.{◌≡◌, ◌≢◌, ℕ, zero, suc, ◌+◌, ◌≤◌, ◌<◌, ◌==◌, ◌⊎◌, inl, inr, Bool, true, false, cond, nat_lt, eqb, sym, refl, ap, subst, ◌∙◌, arith, List, [], ◌∷◌, ◌++◌, length}
+use Rattle.std.proofs.Common.{◌≡◌, ◌≢◌, ℕ, zero, suc, ◌+◌, ◌≤◌, ◌<◌, ◌==◌, ◌⊎◌, inl, inr, Bool, true, false, cond, sym, refl, ap, subst, ◌∙◌, arith, List, [], ◌∷◌, ◌++◌, length}
 use Rattle.std.specs.Prelude.{Option, Some, None, IsSome, slice_get, slice_index_or}
 use Rattle.std.specs.Option.{option_map, unwrap_or}
 use Rattle.std.specs.List.Sorted.{IsStrictlyIncreasing}
-use Rattle.std.proofs.lemmas.Bool.Decides.{nat_tests}
-use Rattle.std.proofs.lemmas.Bool.{eqb-true, eq-eqb}
+use Rattle.std.proofs.lemmas.Bool.{eqb-true, both_ways, cases_eq, cases_lt, cond_both, false≢true, lt-ltb, ltb-true}
+use Rattle.std.proofs.lemmas.Option.{slice_get_past}
 use Rattle.graph_edits.specs.Edges.{Network, IsSound, weight_in}
 use Rattle.graph_edits.specs.Walks.{IsWalk, walk_length, IsLeast, IsReached}
 use Rattle.graph_edits.specs.Laws.{IsWalk-push, IsLeast-unique}
@@ -24,27 +24,18 @@ use Rattle.schemes.proofs.Basics.Walks.{symmetric}
 use Rattle.schemes.proofs.Serving.Exact.{Distances}
 use Rattle.schemes.proofs.Serving.CheckedLaw.{first_is_listed}
 use Rattle.node_table.proofs.Builds.GrownTrees.{grown_tree}
-use Rattle.schemes.proofs.Basics.Options.{is_there, some_is, same_value}
+use Rattle.schemes.proofs.Basics.Options.{is_there, some_is, same_value, not_none}
 
 -- ---- least lengths
 
 pub zero_walk : (m : Network) → IsSound m → (u : ℕ) (xs : List ℕ) (v : ℕ) → IsWalk m.edges u xs v → walk_length m.edges u xs ≡ 0 → u ≡ v
 zero_walk m s u [] v w e = w
-zero_walk m s u (x ∷ xs) v w e = absurd (go (weight_in m u x) refl w.0 e)
-  where
-    go : (o : Option ℕ) → weight_in m u x ≡ o → IsSome o → unwrap_or o 0 + walk_length m.edges x xs ≡ 0 → ⊥
-    go None g i k = bad i
-      where
-        bad : false ≡ true → ⊥
-        bad e = cc
-    go (Some c) g i k = (let pos = (s.weighted u x c g).0 in omega (arith, pos, k))
-
-le_cases : (a b : ℕ) → (a ≤ b) ⊎ (b < a)
-le_cases a b = go (nat_lt b a) refl
-  where
-    go : (c : Bool) → nat_lt b a ≡ c → (a ≤ b) ⊎ (b < a)
-    go true e = inr (grind (arith, nat_tests))
-    go false e = inl (grind (arith, nat_tests))
+zero_walk m s u (x ∷ xs) v w e =
+    let c = is_there (weight_in m u x) w.0 in
+    let pos = (s.weighted u x c.0 c.1).0 in
+    let long = ap (λ o. unwrap_or o 0) c.1 in
+    let all : unwrap_or (weight_in m u x) 0 + walk_length m.edges x xs ≡ 0 = e in
+    absurd (omega (arith, pos, long, all))
 
 -- where no walk is least, there is none
 none_shorter : (m : Network) (r y : ℕ) → ((d : ℕ) → IsLeast m.edges (λ s. s ≡ r) y d → ⊥) → (k : ℕ) (xs : List ℕ) → IsWalk m.edges r xs y → walk_length m.edges r xs < k → ⊥
@@ -55,9 +46,9 @@ none_shorter m r y none (suc k) xs w l =
       attained = (r, (refl, (xs, (w, refl))));
       least = λ s zs e v. (let q = subst (λ z. IsWalk m.edges z zs y) e v in
           let same : walk_length m.edges s zs ≡ walk_length m.edges r zs = ap (λ z. walk_length m.edges z zs) e in
-          elim (le_cases n (walk_length m.edges r zs)) [
-            | inl a ↦ omega (arith, a, same)
-            | inr b ↦ absurd (none_shorter m r y none k zs q (omega (arith, b, l)))
+          elim (cases_lt (walk_length m.edges r zs) n) [
+            | inl b ↦ absurd (none_shorter m r y none k zs q (omega (arith, b, l)))
+            | inr a ↦ omega (arith, a, same)
           ]);
     })
 
@@ -67,17 +58,6 @@ no_walk m r y none xs w = none_shorter m r y none (suc (walk_length m.edges r xs
 pub itself : (m : Network) (r : ℕ) → IsLeast m.edges (λ s. s ≡ r) r 0
 itself m r = record { attained = (r, (refl, ([], (refl, refl)))); least = λ s xs e w. omega arith }
 
--- ---- options
-
-none_is : {X : Type 0} {x : X} {o : Option X} → o ≡ None → o ≡ Some x → ⊥
-none_is e f = cc
-
-not_some : {X : Type 0} (o : Option X) → o ≡ None → IsSome o → ⊥
-not_some o e s = none_is e (is_there o s).1
-
-not_both : {b : Bool} → b ≡ true → b ≡ false → ⊥
-not_both p q = cc
-
 -- ---- what the look-ups are
 
 pub flag_is : (flags : List Bool) (v : ℕ) → slice_index_or flags v false ≡ or_false (slice_get flags v)
@@ -86,21 +66,15 @@ flag_is (b ∷ bs) zero = refl
 flag_is (b ∷ bs) (suc v) = flag_is bs v
 
 flag_inside : (flags : List Bool) (v : ℕ) → or_false (slice_get flags v) ≡ true → v < length flags
-flag_inside [] v e = absurd (bad e)
-  where
-    bad : false ≡ true → ⊥
-    bad e = cc
-flag_inside (b ∷ bs) zero e = omega arith
-flag_inside (b ∷ bs) (suc v) e = (let l = flag_inside bs v e in omega (arith, l))
+flag_inside flags v e = elim (cases_lt v (length flags)) [
+  | inl l ↦ l
+  | inr le ↦ absurd (false≢true (ap or_false (sym (slice_get_past flags v le)) ∙ e))
+]
 
 -- strictly ascending roots below k: those that are found are below k
 below_found : (k r : ℕ) (es : List Entry) (e : Entry) → AreBelow k (roots_of es) → first_entry r es ≡ Some e → r < k
-below_found k r [] e a g = absurd (none_is refl g)
-below_found k r (x ∷ es) e a g = go (λ h. below_found k r es e a.1 h) (x.root == r) refl g
-  where
-    go : (first_entry r es ≡ Some e → r < k) → (b : Bool) → (x.root == r) ≡ b → cond b (Some x) (first_entry r es) ≡ Some e → r < k
-    go ih true t h = (let q = eqb-true x.root r t in subst (λ z. z < k) q a.0)
-    go ih false t h = ih h
+below_found k r [] e a g = absurd (not_none g refl)
+below_found k r (x ∷ es) e a g = cond_both (x.root == r) (Some x) (first_entry r es) (λ o. o ≡ Some e → r < k) (λ t _. subst (λ z. z < k) (eqb-true x.root r t) a.0) (λ _ h. below_found k r es e a.1 h) g
 
 module _ (m : Network) (sound : IsSound m) (p : Parts) (h : IsBuiltBetween m p 0 m.nodes) where
   column_of : (r : ℕ) → r < m.nodes → HasColumn m p r
@@ -137,15 +111,14 @@ module _ (m : Network) (sound : IsSound m) (p : Parts) (h : IsBuiltBetween m p 0
   root_within : (r : ℕ) (b : Bool) (o : Option Near) → (tables p).landmark r ≡ b → (tables p).nearest r ≡ o → is_below 0 (limit_in p r r) ≡ true
   root_within r true o l g = ap (is_below 0) (no_limit r r l)
   root_within r false None l g = ap (is_below 0) (near_limit r r None l g)
-  root_within r false (Some q) l g = ap (is_below 0) (near_limit r r (Some q) l g) ∙ positive q.distance (λ z. (
-      let k = near r q g in
-      let at = k.2.attained in
-      let same : q.landmark ≡ r = sym at.1.0 ∙ zero_walk m sound at.0 at.1.1.0 r at.1.1.1.0 (at.1.1.1.1 ∙ z) in
-      not_both (sym (flag_is p.landmarks.items r) ∙ subst (IsLandmark p.landmarks.items) same k.1) l))
+  root_within r false (Some q) l g = ap (is_below 0) (near_limit r r (Some q) l g) ∙ lt-ltb 0 q.distance (omega (arith, far))
     where
-      positive : (n : ℕ) → (n ≡ 0 → ⊥) → nat_lt 0 n ≡ true
-      positive zero f = absurd (f refl)
-      positive (suc n) f = grind (arith, nat_tests)
+      far : q.distance ≡ 0 → ⊥
+      far z =
+          let k = near r q g in
+          let at = k.2.attained in
+          let same : q.landmark ≡ r = sym at.1.0 ∙ zero_walk m sound at.0 at.1.1.0 r at.1.1.1.0 (at.1.1.1.1 ∙ z) in
+          both_ways ((tables p).landmark r) l (sym (flag_is p.landmarks.items r) ∙ subst (IsLandmark p.landmarks.items) same k.1)
 
   own : (x : ℕ) → x < m.nodes → (e : Entry) × (((tables p).entry x x ≡ Some e) × ((e.distance ≡ 0) × (e.parent ≡ None)))
   own x i =
@@ -176,10 +149,7 @@ module _ (m : Network) (sound : IsSound m) (p : Parts) (h : IsBuiltBetween m p 0
       )
 
   strict : IsStrict (tables p)
-  strict x r e q l g n = below_true e.distance q.distance (sym (ap (is_below e.distance) (near_limit r x (Some q) l n)) ∙ (exact x r e g).1)
-    where
-      below_true : (a b : ℕ) → nat_lt a b ≡ true → a < b
-      below_true a b e = grind (arith, nat_tests)
+  strict x r e q l g n = ltb-true e.distance q.distance (sym (ap (is_below e.distance) (near_limit r x (Some q) l n)) ∙ (exact x r e g).1)
 
   -- the walk over the edge to y
   walk_on : (x y r w : ℕ) (e : Entry) → (tables p).entry x r ≡ Some e → weight_in m x y ≡ Some w → (zs : List ℕ) × (IsWalk m.edges r zs y × (walk_length m.edges r zs ≡ e.distance + w))
@@ -192,7 +162,7 @@ module _ (m : Network) (sound : IsSound m) (p : Parts) (h : IsBuiltBetween m p 0
 
   -- nothing at a distance within the limit lacks an entry
   nothing_least : (r y : ℕ) → r < m.nodes → (tables p).entry y r ≡ None → ((d : ℕ) → IsLeast m.edges (λ s. s ≡ r) y d → is_below d (limit_in p r y) ≡ true) → (zs : List ℕ) → IsWalk m.edges r zs y → ⊥
-  nothing_least r y i none within zs w = no_walk m r y (λ d k. not_some ((tables p).entry y r) none ((column_of r i).column.complete y d k (within d k))) zs w
+  nothing_least r y i none within zs w = no_walk m r y (λ d k. not_none (is_there ((tables p).entry y r) ((column_of r i).column.complete y d k (within d k))).1 none) zs w
 
   closed : IsClosed m (tables p)
   closed x y r w e g k = go ((tables p).entry y r) refl
@@ -213,16 +183,13 @@ module _ (m : Network) (sound : IsSound m) (p : Parts) (h : IsBuiltBetween m p 0
           q,
           (
             n,
-            elim (le_cases q.distance (e.distance + w)) [
-              | inl a ↦ a
-              | inr b ↦ absurd (nothing_least r y i none (λ d k. ap (is_below d) (near_limit r y (Some q) l n) ∙ is_less d q.distance (let c = k.least r way.0 refl way.1.0 in omega (arith, c, way.1.1, b))) way.0 way.1.0)
+            elim (cases_lt (e.distance + w) q.distance) [
+              | inl b ↦ absurd (nothing_least r y i none (λ d k. ap (is_below d) (near_limit r y (Some q) l n) ∙ lt-ltb d q.distance (let c = k.least r way.0 refl way.1.0 in omega (arith, c, way.1.1, b))) way.0 way.1.0)
+              | inr a ↦ a
             ],
           ),
         ),
       )
-        where
-          is_less : (a b : ℕ) → a < b → nat_lt a b ≡ true
-          is_less a b l = grind (arith, nat_tests)
 
       go : (o : Option Entry) → (tables p).entry y r ≡ o
           → ((f : Entry) × (((tables p).entry y r ≡ Some f) × (f.distance ≤ e.distance + w)))
@@ -246,9 +213,9 @@ module _ (m : Network) (sound : IsSound m) (p : Parts) (h : IsBuiltBetween m p 0
           let at = ex.attained in
           let source = subst (IsLandmark p.landmarks.items) (sym at.1.0) (holds a l) in
           let le = k.0.least at.0 at.1.1.0 source at.1.1.1.0 in
-          elim (le_cases e.distance q.distance) [
-            | inl b ↦ (let same : e.distance ≡ q.distance = omega (arith, b, le, at.1.1.1.1) in inr (sym same, k.3 a (holds a l) (subst (IsLeast m.edges (λ s. s ≡ a) x) same ex)))
-            | inr b ↦ inl b
+          elim (cases_lt q.distance e.distance) [
+            | inl b ↦ inl b
+            | inr b ↦ (let same : e.distance ≡ q.distance = omega (arith, b, le, at.1.1.1.1) in inr (sym same, k.3 a (holds a l) (subst (IsLeast m.edges (λ s. s ≡ a) x) same ex)))
           ]
 
       none : (x a : ℕ) → (tables p).nearest x ≡ None → (tables p).landmark a ≡ true → (tables p).entry x a ≡ None
@@ -281,17 +248,13 @@ module _ (m : Network) (sound : IsSound m) (p : Parts) (h : IsBuiltBetween m p 0
   distances = record {
     sound = sound;
     own = own;
-    parents = λ x r e g. or_root x r e g (eqb x r) refl;
+    parents = λ x r e g. elim (cases_eq x r) [ inl s ↦ inl s | inr ne ↦ (let y = parents x r e g ne in inr (y.0, y.1.0)) ];
     inside = inside;
     closed = closed;
     tight = tight;
     strict = strict;
     nearest = nearest_there;
   }
-    where
-      or_root : (x r : ℕ) (e : Entry) → (tables p).entry x r ≡ Some e → (b : Bool) → eqb x r ≡ b → (x ≡ r) ⊎ ((y : ℕ) × (e.parent ≡ Some y))
-      or_root x r e g true q = inl (eqb-true x r q)
-      or_root x r e g false q = (let y = parents x r e g (λ z. not_both (eq-eqb x r z) q) in inr (y.0, y.1.0))
 
   line_of : (r : ℕ) → (i : r < m.nodes) → (place : Place) (above : Line) → Among (place ∷ above) (tree_lines (tree_at m (tables p) r))
       → (e : Entry) × (((tables p).entry place.node r ≡ Some e) × ((record_of e.tree_record ≡ place.tree_record) × ((column_of r i).labels place.node ≡ Some place.label)))
@@ -316,22 +279,14 @@ module _ (m : Network) (sound : IsSound m) (p : Parts) (h : IsBuiltBetween m p 0
   directories : HasDirectories m p
   directories = record {
     landmarks = λ u l. (column_of u (landmark_inside u l)).landmark l;
-    ascend = λ u. ascend u (nat_lt u m.nodes) refl;
+    ascend = λ u. elim (cases_lt u m.nodes) [ inl l ↦ (column_of u l).ascend | inr le ↦ past u le ];
     exact = λ u v i l. (λ s. to_entry u v i s, λ s. (column_of u i).complete l v (((column_of u i).column.labelled v).0 s));
     homes = λ v i. (h.homes_near v, λ s. home_there v s);
   }
     where
-      past : {X : Type 0} (xs : List X) (i : ℕ) → length xs ≤ i → slice_get xs i ≡ None
-      past [] i l = refl
-      past (x ∷ xs) zero l = absurd (omega arith)
-      past (x ∷ xs) (suc i) l = past xs i (omega (arith, l))
-
-      ascend : (u : ℕ) (b : Bool) → nat_lt u m.nodes ≡ b → IsStrictlyIncreasing (nodes_of (directory_at p u))
-      ascend u true e = (column_of u (let l : u < m.nodes = grind (arith, nat_tests) in l)).ascend
-      ascend u false e =
-          let l : m.nodes ≤ u = grind (arith, nat_tests) in
-          let none = past p.directories.items u (omega (arith, l, h.directories)) in
-          let empty : directory_at p u ≡ [] = ap (λ o. elim o [ None ↦ [] | Some v ↦ v.items ]) none in
+      past : (u : ℕ) → m.nodes ≤ u → IsStrictlyIncreasing (nodes_of (directory_at p u))
+      past u le =
+          let empty : directory_at p u ≡ [] = ap (λ o. elim o [ None ↦ [] | Some v ↦ v.items ]) (slice_get_past p.directories.items u (omega (arith, le, h.directories))) in
           subst (λ z. IsStrictlyIncreasing (nodes_of z)) (sym empty) (λ k j. absurd (omega (arith, j)))
 
       to_entry : (u v : ℕ) (i : u < m.nodes) → IsSome ((tables p).listed u v) → IsSome ((tables p).entry v u)

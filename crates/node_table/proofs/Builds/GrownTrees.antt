@@ -1,9 +1,10 @@
 -- The tree that members grow into is the one that the tables' parents give.
-use Rattle.std.proofs.Common.{◌≡◌, ℕ, zero, suc, ◌+◌, ◌<◌, ◌==◌, inl, inr, Bool, true, false, cond, nat_le, max, sym, refl, ap, subst, ◌∙◌, arith, List, [], ◌∷◌, ◌++◌, map, length, take, drop, get_or, append_assoc}
+use Rattle.std.proofs.Common.{◌≡◌, ℕ, zero, suc, ◌+◌, ◌<◌, inl, inr, Bool, true, false, cond, nat_le, max, sym, refl, ap, subst, ◌∙◌, arith, List, [], ◌∷◌, ◌++◌, map, length, take, drop, get_or, add-one, append_assoc}
 use Rattle.std.specs.Prelude.{Option, Some, None}
 use Rattle.std.proofs.lemmas.Bool.Decides.{nat_tests}
-use Rattle.std.proofs.lemmas.Bool.{eqb-true, eq-eqb}
+use Rattle.std.proofs.lemmas.Bool.{eqb-true, eq-eqb, both_ways, cond_both, false≢true, ne_eqb}
 use Rattle.std.proofs.Math.Nat.{le-max_right}
+use Rattle.std.proofs.lemmas.List.{take-take}
 use Rattle.graph_edits.specs.Edges.{Network, below as up_to}
 use Rattle.route_tree.specs.Rose.{Tree, tree, tree_size, of_list}
 use Rattle.route_tree.specs.Order.{ascending, heaviest, fronted}
@@ -25,20 +26,14 @@ use Rattle.schemes.proofs.LocalForms.TreeOfTables.{child_of, tree_to_depth-node,
 
 -- ---- the heavy tree in front, said in two ways
 
-add_suc : (i : ℕ) → i + 1 ≡ suc i
-add_suc i = omega arith
-
 front_here : (m : ℕ) (ts : List Tree) (i : ℕ) (passed : List Tree) (d : Tree) → i < length ts → tree_size (get_or ts i d) ≡ m → ((k : ℕ) → k < i → tree_size (get_or ts k d) < m)
     → fronted m passed ts ≡ get_or ts i d ∷ (passed ++ (take i ts ++ drop (suc i) ts))
 front_here m [] i passed d l e h = absurd (omega arith)
 front_here m (t ∷ ts) zero passed d l e h = rw (eq-eqb (tree_size t) m e) refl
 front_here m (t ∷ ts) (suc i) passed d l e h =
-    rw (unequal (tree_size t) m (h 0 (omega arith)))
+    rw (ne_eqb (tree_size t) m (λ same. (let l = h 0 (omega arith) in omega (arith, l, same))))
     (front_here m ts i (passed ++ t ∷ []) d (omega arith) e (λ k j. h (suc k) (omega (arith, j)))
     ∙ ap (λ z. get_or ts i d ∷ z) (append_assoc passed (t ∷ []) (take i ts ++ drop (suc i) ts)))
-  where
-    unequal : (a b : ℕ) → a < b → (a == b) ≡ false
-    unequal a b l = grind (arith, nat_tests)
 
 lighter_before : (ts : List Tree) (d : Tree) (k : ℕ) → k < heavy_at ts → tree_size (get_or ts k d) < heaviest ts
 lighter_before [] d k l = absurd (omega arith)
@@ -49,11 +44,6 @@ lighter_before (t ∷ ts) d k l = go (λ j h. lighter_before ts d j h) (nat_le (
     go below false e zero l = (let a : tree_size t < heaviest ts = grind (arith, nat_tests) in omega (arith, a, le-max_right (tree_size t) (heaviest ts)))
     go below false e (suc k) l = (let ih = below k (omega (arith, l)) in omega (arith, ih, le-max_right (tree_size t) (heaviest ts)))
 
-take_take : (i : ℕ) (ts : List Tree) → take i (take (suc i) ts) ≡ take i ts
-take_take zero ts = refl
-take_take (suc i) [] = refl
-take_take (suc i) (t ∷ ts) = ap (λ z. t ∷ z) (take_take i ts)
-
 pub heavy_front : (ts : List Tree) → heavy_to_front ts ≡ fronted (heaviest ts) [] ts
 heavy_front [] = refl
 heavy_front (t ∷ ts) =
@@ -61,10 +51,10 @@ heavy_front (t ∷ ts) =
     let i = heavy_at us in
     let l = heavy_here t ts in
     let a : drop i (take (i + 1) us) ≡ get_or us i t ∷ [] = from_part us i t l in
-    let b : take i (take (i + 1) us) ≡ take i us = ap (λ z. take i (take z us)) (add_suc i) ∙ take_take i us in
+    let b : take i (take (i + 1) us) ≡ take i us = take-take i (i + 1) us (omega arith) in
     ap (λ z. (z ++ take i (take (i + 1) us)) ++ drop (i + 1) us) a
     ∙ ap (λ z. get_or us i t ∷ (z ++ drop (i + 1) us)) b
-    ∙ ap (λ z. get_or us i t ∷ (take i us ++ drop z us)) (add_suc i)
+    ∙ ap (λ z. get_or us i t ∷ (take i us ++ drop z us)) (add-one i)
     ∙ sym (front_here (heaviest us) us i [] t l (heavy_size t ts t) (λ k j. lighter_before us t k j))
 
 -- ---- what hangs on a node
@@ -75,25 +65,20 @@ no_tree (s ∷ ss) h = absurd (h s (inl refl))
 
 fresh_trees : (x n : ℕ) (ms : List Member) → LacksMember x ms → Fresh x (trees_on n ms (subtrees ms))
 fresh_trees x n [] l = tt
-fresh_trees x n (a ∷ ms) l = go (is_parent n a.parent) (fresh_trees x n ms l.1)
-  where
-    go : (b : Bool) → Fresh x (trees_on n ms (subtrees ms)) → Fresh x (cond b (tree a.node a.up a.down (of_list (heavy_to_front (ascending (trees_on a.node ms (subtrees ms))))) ∷ trees_on n ms (subtrees ms)) (trees_on n ms (subtrees ms)))
-    go true h = (l.0, h)
-    go false h = h
+fresh_trees x n (a ∷ ms) l =
+    let here = tree a.node a.up a.down (of_list (heavy_to_front (ascending (trees_on a.node ms (subtrees ms))))) in
+    let h = fresh_trees x n ms l.1 in
+    cond_both (is_parent n a.parent) (here ∷ trees_on n ms (subtrees ms)) (trees_on n ms (subtrees ms)) (Fresh x) (λ _. (l.0, h)) (λ _. h)
 
 differ_trees : (n : ℕ) (ms : List Member) → AreDistinct ms → Differ (trees_on n ms (subtrees ms))
 differ_trees n [] l = tt
-differ_trees n (a ∷ ms) l = go (is_parent n a.parent) (differ_trees n ms l.1)
-  where
-    go : (b : Bool) → Differ (trees_on n ms (subtrees ms)) → Differ (cond b (tree a.node a.up a.down (of_list (heavy_to_front (ascending (trees_on a.node ms (subtrees ms))))) ∷ trees_on n ms (subtrees ms)) (trees_on n ms (subtrees ms)))
-    go true h = (fresh_trees a.node n ms l.0, h)
-    go false h = h
+differ_trees n (a ∷ ms) l =
+    let here = tree a.node a.up a.down (of_list (heavy_to_front (ascending (trees_on a.node ms (subtrees ms))))) in
+    let h = differ_trees n ms l.1 in
+    cond_both (is_parent n a.parent) (here ∷ trees_on n ms (subtrees ms)) (trees_on n ms (subtrees ms)) Differ (λ _. (fresh_trees a.node n ms l.0, h)) (λ _. h)
 
 is_parent_of : (n : ℕ) (o : Option ℕ) → is_parent n o ≡ true → o ≡ Some n
-is_parent_of n None e = absurd (bad e)
-  where
-    bad : false ≡ true → ⊥
-    bad e = cc
+is_parent_of n None e = absurd (false≢true e)
 is_parent_of n (Some p) e = ap (λ z. Some z) (eqb-true p n e)
 
 parent_is_of : (n : ℕ) (o : Option ℕ) → o ≡ Some n → is_parent n o ≡ true
@@ -138,11 +123,8 @@ module _ (m : Network) (t : Tables) (r : ℕ) where
   hanging_any : (n : ℕ) (ms : List Member) (ss : List Tree) → IsLaid m (λ x. t.entry x r) ms → (s : Tree) → Has s (trees_on n ms ss) → (y : ℕ) × (parent_is n (t.entry y r) ≡ true)
   hanging_any n [] ss laid s h = absurd h
   hanging_any n (a ∷ ms) [] laid s h = absurd h
-  hanging_any n (a ∷ ms) (u ∷ ss) laid s h = go (is_parent n a.parent) refl (λ q. hanging_any n ms ss laid.1.1 s q) h
-    where
-      go : (b : Bool) → is_parent n a.parent ≡ b → (Has s (trees_on n ms ss) → (y : ℕ) × (parent_is n (t.entry y r) ≡ true)) → Has s (cond b (u ∷ trees_on n ms ss) (trees_on n ms ss)) → (y : ℕ) × (parent_is n (t.entry y r) ≡ true)
-      go true e ih q = (a.node, child_by n a laid.0 e)
-      go false e ih q = ih q
+  hanging_any n (a ∷ ms) (u ∷ ss) laid s h =
+      cond_both (is_parent n a.parent) (u ∷ trees_on n ms ss) (trees_on n ms ss) (λ us. Has s us → (y : ℕ) × (parent_is n (t.entry y r) ≡ true)) (λ e _. (a.node, child_by n a laid.0 e)) (λ _ q. hanging_any n ms ss laid.1.1 s q) h
 
   -- and every child's tree hangs there
   child_hangs : (k n y : ℕ) (ms : List Member) (ss : List Tree) → IsLaid m (λ x. t.entry x r) ms → HaveTrees m t r ms ss → parent_is n (t.entry y r) ≡ true → IsDeep m t r k y → HasMember y ms
@@ -151,16 +133,13 @@ module _ (m : Network) (t : Tables) (r : ℕ) where
   child_hangs k n y (a ∷ ms) [] laid same g deep h = absurd same
   child_hangs k n y (a ∷ ms) (u ∷ ss) laid same g deep h = go (is_parent n a.parent) refl (λ q. child_hangs k n y ms ss laid.1.1 same.1 g deep q) h
     where
-      not_both : {b : Bool} → b ≡ true → b ≡ false → ⊥
-      not_both p q = cc
-
       here : y ≡ a.node → is_parent n a.parent ≡ true
       here i = by_child n a laid.0 (subst (λ z. parent_is n (t.entry z r) ≡ true) i g)
 
       go : (b : Bool) → is_parent n a.parent ≡ b → (HasMember y ms → Has (tree_to_depth m t r k y) (trees_on n ms ss)) → HasMember y (a ∷ ms) → Has (tree_to_depth m t r k y) (cond b (u ∷ trees_on n ms ss) (trees_on n ms ss))
       go true e ih (inl i) = inl (ap (tree_to_depth m t r k) i ∙ sym (same.0 k (subst (IsDeep m t r k) i deep)))
       go true e ih (inr q) = inr (ih q)
-      go false e ih (inl i) = absurd (not_both (here i) e)
+      go false e ih (inl i) = absurd (both_ways (is_parent n a.parent) e (here i))
       go false e ih (inr q) = ih q
 
   -- an ascending list of nodes has rising trees

@@ -1,8 +1,9 @@
 -- Two adjacent ranges of roots, joined: tables of the roots from a to below b, with those from b to below c behind them.
-use Rattle.std.proofs.Common.{◌≡◌, ℕ, zero, suc, ◌+◌, ◌≤◌, ◌<◌, ◌⊎◌, inl, inr, Bool, true, false, nat_lt, sym, refl, ap, subst, ◌∙◌, arith, List, [], ◌∷◌, ◌++◌, length}
+use Rattle.std.proofs.Common.{◌≡◌, ℕ, ◌+◌, ◌≤◌, ◌<◌, inl, inr, Bool, true, false, sym, refl, ap, subst, ◌∙◌, arith, List, [], ◌∷◌, ◌++◌, length}
 use Rattle.std.specs.Prelude.{Option, Some, None, IsSome, slice_get}
 use Rattle.std.specs.List.Sorted.{IsStrictlyIncreasing}
-use Rattle.std.proofs.lemmas.Bool.Decides.{nat_tests}
+use Rattle.std.proofs.lemmas.Bool.{cases_lt, ne_eqb}
+use Rattle.std.proofs.lemmas.List.{map-append}
 use Rattle.graph_edits.specs.Edges.{Network}
 use Rattle.distances.specs.Nearest.{IsNearestOf}
 use Rattle.landmarks.specs.declared.near.Near.{Near}
@@ -13,43 +14,18 @@ use Rattle.schemes.specs.Tables.{tables, entries_at, directory_at, first_entry, 
 use Rattle.node_table.specs.Columns.{HasColumn, IsBuiltBetween, AreBelow, AreFrom}
 use Rattle.node_table.specs.Building.{first_list, first_some, IsJoined, IsBuildOf}
 use Rattle.node_table.proofs.Builds.KeptColumns.{column_kept}
-use Rattle.node_table.proofs.Builds.RowSteps.{below_more}
-use Rattle.node_table.proofs.Builds.OneRootMore.{first_left, first_right, roots_append, differ, from_both}
+use Rattle.node_table.proofs.Builds.RowSteps.{below_both, below_more, increasing_both}
+use Rattle.node_table.proofs.Builds.OneRootMore.{first_left, first_right, from_both, none_under}
 
 -- ---- lists of roots below b and from b
 
 none_from : (b r : ℕ) (es : List Entry) → r < b → AreFrom b (roots_of es) → first_entry r es ≡ None
 none_from b r [] l f = refl
-none_from b r (e ∷ es) l f = rw (let k = f.0 in differ e.root r (λ s. omega (arith, k, l, s))) (none_from b r es l f.1)
-
-none_under : (b r : ℕ) (es : List Entry) → b ≤ r → AreBelow b (roots_of es) → first_entry r es ≡ None
-none_under b r [] l f = refl
-none_under b r (e ∷ es) l f = rw (let k = f.0 in differ e.root r (λ s. omega (arith, k, l, s))) (none_under b r es l f.1)
+none_from b r (e ∷ es) l f = rw (let k = f.0 in ne_eqb e.root r (λ s. omega (arith, k, l, s))) (none_from b r es l f.1)
 
 from_more : (xs : List ℕ) (j k : ℕ) → j ≤ k → AreFrom k xs → AreFrom j xs
 from_more [] j k l b = tt
 from_more (x ∷ xs) j k l b = (omega (arith, l, b.0), from_more xs j k l b.1)
-
-below_both : (k : ℕ) (xs ys : List ℕ) → AreBelow k xs → AreBelow k ys → AreBelow k (xs ++ ys)
-below_both k [] ys a b = b
-below_both k (x ∷ xs) ys a b = (a.0, below_both k xs ys a.1 b)
-
-increasing_both : (b : ℕ) (xs ys : List ℕ) → IsStrictlyIncreasing xs → IsStrictlyIncreasing ys → AreBelow b xs → AreFrom b ys → IsStrictlyIncreasing (xs ++ ys)
-increasing_both b [] ys h g u f k l = g k l
-increasing_both b (x ∷ []) [] h g u f k l = absurd (omega (arith, l))
-increasing_both b (x ∷ []) (y ∷ ys) h g u f zero l = (let p = u.0 in let q = f.0 in omega (arith, p, q))
-increasing_both b (x ∷ []) (y ∷ ys) h g u f (suc k) l = rw shift (g k (omega (arith, l)))
-  where
-    shift : suc k + 1 ≡ suc (k + 1)
-    shift = omega arith
-increasing_both b (x ∷ z ∷ xs) ys h g u f zero l = h 0 (omega arith)
-increasing_both b (x ∷ z ∷ xs) ys h g u f (suc k) l = rw shift (increasing_both b (z ∷ xs) ys rest g u.1 f k (omega (arith, l)))
-  where
-    shift : suc k + 1 ≡ suc (k + 1)
-    shift = omega arith
-
-    rest : IsStrictlyIncreasing (z ∷ xs)
-    rest j i = (let q : suc j + 1 ≡ suc (j + 1) = omega arith in let g = h (suc j) (omega (arith, i)) in rw q at g)
 
 list_left : {X : Type 0} (xs : List X) → first_list xs [] ≡ xs
 list_left [] = refl
@@ -58,13 +34,6 @@ list_left (x ∷ xs) = refl
 some_left : {X : Type 0} (o : Option X) → first_some o None ≡ o
 some_left None = refl
 some_left (Some x) = refl
-
-either_side : (r b : ℕ) → (r < b) ⊎ (b ≤ r)
-either_side r b = go (nat_lt r b) refl
-  where
-    go : (c : Bool) → nat_lt r b ≡ c → (r < b) ⊎ (b ≤ r)
-    go true e = inl (grind (arith, nat_tests))
-    go false e = inr (grind (arith, nat_tests))
 
 module _ (m : Network) (p q t : Parts) (a b c : ℕ) (ab : a ≤ b) (bc : b ≤ c) (h : IsBuiltBetween m p a b) (k : IsBuiltBetween m q b c)
     (flags : q.landmarks.items ≡ p.landmarks.items) (near : q.nearest.items ≡ p.nearest.items) (w : IsJoined p q t) where
@@ -81,7 +50,7 @@ module _ (m : Network) (p q t : Parts) (a b c : ℕ) (ab : a ≤ b) (bc : b ≤ 
   nearest_q v = nearest_p v ∙ ap (λ z. value_at z v) (sym near)
 
   roots_t : (x : ℕ) → roots_of (entries_at t x) ≡ roots_of (entries_at p x) ++ roots_of (entries_at q x)
-  roots_t x = ap roots_of (w.entries.items x) ∙ roots_append (entries_at p x) (entries_at q x)
+  roots_t x = ap roots_of (w.entries.items x) ∙ map-append (λ (e : Entry). e.root) (entries_at p x) (entries_at q x)
 
   first_p : (r x : ℕ) → r < b → first_entry r (entries_at t x) ≡ first_entry r (entries_at p x)
   first_p r x l = ap (first_entry r) (w.entries.items x) ∙ first_left r (entries_at p x) (entries_at q x) (none_from b r (entries_at q x) l (k.from x))
@@ -135,7 +104,7 @@ module _ (m : Network) (p q t : Parts) (a b c : ℕ) (ab : a ≤ b) (bc : b ≤ 
     ascend = λ x. subst IsStrictlyIncreasing (sym (roots_t x)) (increasing_both b (roots_of (entries_at p x)) (roots_of (entries_at q x)) (h.ascend x) (k.ascend x) (h.below x) (k.from x));
     below = λ x. subst (AreBelow c) (sym (roots_t x)) (below_both c (roots_of (entries_at p x)) (roots_of (entries_at q x)) (below_more (roots_of (entries_at p x)) b c bc (h.below x)) (k.below x));
     from = λ x. subst (AreFrom a) (sym (roots_t x)) (from_both a (roots_of (entries_at p x)) (roots_of (entries_at q x)) (h.from x) (from_more (roots_of (entries_at q x)) a b ab (k.from x)));
-    columns = λ r i l. elim (either_side r b) [ inl s ↦ column_p r i s | inr s ↦ column_q r s l ];
+    columns = λ r i l. elim (cases_lt r b) [ inl s ↦ column_p r i s | inr s ↦ column_q r s l ];
     homes_near = λ v s. homes_near v ((tables t).nearest v) refl s;
     fresh = λ u l. directory_q u (omega (arith, l, bc)) ∙ k.fresh u l;
     fresh_before = λ u l. directory_p u (omega (arith, l, ab)) ∙ h.fresh_before u l;

@@ -1,14 +1,14 @@
 -- One root more: tables that hold the trees of the first k roots hold k + 1 with the rows of the next.
-use Rattle.std.proofs.Common.{◌≡◌, ℕ, suc, ◌+◌, ◌≤◌, ◌<◌, ◌==◌, ◌⊎◌, inl, inr, Bool, true, false, cond, nat_lt, sym, refl, ap, subst, ◌∙◌, arith, List, [], ◌∷◌, ◌++◌, length, map, get_or, IsPermutation}
+use Rattle.std.proofs.Common.{◌≡◌, ℕ, suc, ◌+◌, ◌≤◌, ◌<◌, ◌==◌, ◌⊎◌, inl, inr, Bool, true, false, cond, sym, refl, ap, subst, ◌∙◌, arith, List, [], ◌∷◌, ◌++◌, length, map, get_or, IsPermutation}
 use Rattle.std.specs.Prelude.{Option, Some, None, IsSome, nat_eq, slice_get, slice_index_or}
 use Rattle.std.specs.Option.{option_map}
 use Rattle.std.specs.List.{All, AllByRecursion, IsDistinct}
 use Rattle.std.specs.List.Sorted.{IsStrictlyIncreasing}
-use Rattle.std.proofs.lemmas.Bool.Decides.{nat_tests}
-use Rattle.std.proofs.lemmas.Bool.{eqb-true, eq-eqb}
+use Rattle.std.proofs.lemmas.Bool.{eqb-true, eq-eqb, both_ways, cases_lt, cond-false, cond_both, eqb-false, false≢true, ne_eqb}
 use Rattle.std.proofs.lemmas.List.Elements.{All-map}
 use Rattle.std.proofs.lemmas.List.Sorted.{Contains-permutation, IsPermutation-sym}
 use Rattle.std.proofs.lemmas.Map.Keys.{IsDistinct-head, IsDistinct-tail}
+use Rattle.std.proofs.lemmas.List.{append-nil, map-append}
 use Rattle.graph_edits.specs.Edges.{Network}
 use Rattle.distances.specs.Nearest.{IsNearestOf}
 use Rattle.landmarks.specs.declared.near.Near.{Near}
@@ -22,33 +22,16 @@ use Rattle.schemes.specs.Tables.{tables, entries_at, directory_at, first_entry, 
 use Rattle.schemes.specs.Checks.{IsListed}
 use Rattle.node_table.specs.Columns.{IsColumn, HasColumn, IsBuiltBetween, AreBelow, AreFrom, limit_in}
 use Rattle.node_table.specs.RowLists.{Row, nodes_in, nodes_numbered, row_at, row_by, rows_by, entry_in, label_in}
-use Rattle.node_table.specs.Building.{entries_for, listed_member, home_by, home_after, limit_by, IsDirectoryOf, IsDirectoryAfter, AreRowsOf, IsWith, IsBuildOf}
+use Rattle.node_table.specs.Building.{entries_for, listed_member, home_by, home_after, limit_by, IsDirectoryOf, IsDirectoryAfter, AreRowsOf, IsWith, IsBuildOf, has_home}
 use Rattle.node_table.proofs.Builds.KeptColumns.{column_kept, limit_kept}
 use Rattle.node_table.proofs.Builds.MadeRows.{listed_row}
-use Rattle.node_table.proofs.Builds.RowSteps.{increasing_push, below_more, below_push, rows_nodes}
+use Rattle.node_table.proofs.Builds.RowSteps.{increasing_push, below_more, rows_nodes, below_both}
 use Rattle.node_table.proofs.Builds.RowColumns.{row_found}
-use Rattle.node_table.proofs.Builds.TreeMembers.{IsIn, is_in_of, contains_of}
+use Rattle.node_table.proofs.Builds.TreeMembers.{IsIn, is_in_of, contains_of, in_map, map_in}
 use Rattle.node_table.proofs.Builds.BuildSteps.{near_is, rows_listed}
 use Rattle.node_table.proofs.Builds.Built.{flag_is}
 use Rattle.schemes.specs.Ports.{neighbours}
-
--- ---- numbers that differ
-
-not_both : {b : Bool} → b ≡ true → b ≡ false → ⊥
-not_both p q = cc
-
-unequal : (a b : ℕ) → a < b → (b == a) ≡ false
-unequal a b l = grind (arith, nat_tests)
-
-pub differ : (a b : ℕ) → (a ≡ b → ⊥) → (a == b) ≡ false
-differ a b n = go (a == b) refl
-  where
-    go : (c : Bool) → (a == b) ≡ c → c ≡ false
-    go false e = refl
-    go true e = absurd (n (eqb-true a b e))
-
-none_some : {X : Type 0} {x : X} {o : Option X} → o ≡ None → o ≡ Some x → ⊥
-none_some e f = cc
+use Rattle.schemes.proofs.Basics.Options.{not_none}
 
 -- ---- the rows of a node
 
@@ -68,7 +51,7 @@ apart_of (w ∷ ws) d = (none ws (IsDistinct-head nat_eq w.node (nodes_in ws) d)
   where
     none : (vs : List Row) → AllByRecursion (λ y. nat_eq w.node y ≡ false) (nodes_in vs) → HasNone w.node vs
     none [] a = tt
-    none (v ∷ vs) a = (differ v.node w.node (λ s. not_both (eq-eqb w.node v.node (sym s)) a.0), none vs a.1)
+    none (v ∷ vs) a = (ne_eqb v.node w.node (λ s. both_ways (w.node == v.node) a.0 (eq-eqb w.node v.node (sym s))), none vs a.1)
 
 not_there : (v : ℕ) (ws : List Row) → HasNone v ws → (w : Row) → IsIn w ws → (w.node == v) ≡ false
 not_there v [] h w i = absurd i
@@ -117,8 +100,8 @@ row_own (u ∷ ws) a w i = go (u.node == w.node) refl i (λ j. row_own ws a.1 w 
   where
     go : (b : Bool) → (u.node == w.node) ≡ b → IsIn w (u ∷ ws) → (IsIn w ws → row_at ws w.node ≡ Some w) → cond b (Some u) (row_at ws w.node) ≡ Some w
     go true t (inl s) ih = ap (λ z. Some z) (sym s)
-    go true t (inr j) ih = absurd (not_both (eq-eqb w.node u.node (sym (eqb-true u.node w.node t))) (not_there u.node ws a.0 w j))
-    go false t (inl s) ih = absurd (not_both (eq-eqb u.node w.node (ap (λ (z : Row). z.node) (sym s))) t)
+    go true t (inr j) ih = absurd (both_ways (w.node == u.node) (not_there u.node ws a.0 w j) (eq-eqb w.node u.node (sym (eqb-true u.node w.node t))))
+    go false t (inl s) ih = absurd (eqb-false u.node w.node t (ap (λ (z : Row). z.node) (sym s)))
     go false t (inr j) ih = ih j
 
 -- ---- searching appended entries
@@ -129,19 +112,12 @@ first_left r (e ∷ es) more n = ap (λ z. cond (e.root == r) (Some e) z) (first
 
 pub first_right : (r : ℕ) (es more : List Entry) → first_entry r es ≡ None → first_entry r (es ++ more) ≡ first_entry r more
 first_right r [] more n = refl
-first_right r (e ∷ es) more n = go (e.root == r) n (first_right r es more)
-  where
-    go : (b : Bool) → cond b (Some e) (first_entry r es) ≡ None → (first_entry r es ≡ None → first_entry r (es ++ more) ≡ first_entry r more) → cond b (Some e) (first_entry r (es ++ more)) ≡ first_entry r more
-    go true k ih = absurd (none_some k refl)
-    go false k ih = ih k
+first_right r (e ∷ es) more n = cond_both (e.root == r) (Some e) (first_entry r es) (λ o. o ≡ None → cond (e.root == r) (Some e) (first_entry r (es ++ more)) ≡ first_entry r more)
+    (λ _ k. absurd (not_none refl k)) (λ f k. cond-false (e.root == r) (Some e) (first_entry r (es ++ more)) f ∙ first_right r es more k) n
 
-none_below : (k : ℕ) (es : List Entry) → AreBelow k (roots_of es) → first_entry k es ≡ None
-none_below k [] b = refl
-none_below k (e ∷ es) b = rw (let l = b.0 in differ e.root k (λ s. omega (arith, l, s))) (none_below k es b.1)
-
-pub roots_append : (es more : List Entry) → roots_of (es ++ more) ≡ roots_of es ++ roots_of more
-roots_append [] more = refl
-roots_append (e ∷ es) more = ap (λ z. e.root ∷ z) (roots_append es more)
+pub none_under : (b r : ℕ) (es : List Entry) → b ≤ r → AreBelow b (roots_of es) → first_entry r es ≡ None
+none_under b r [] l f = refl
+none_under b r (e ∷ es) l f = rw (let k = f.0 in ne_eqb e.root r (λ s. omega (arith, k, l, s))) (none_under b r es l f.1)
 
 -- ---- directories and home labels
 
@@ -149,11 +125,6 @@ is_listed : (e : Listed) (es : List Listed) → IsListed e es → IsIn e es
 is_listed e [] i = absurd i
 is_listed e (f ∷ es) (inl s) = inl s
 is_listed e (f ∷ es) (inr i) = inr (is_listed e es i)
-
-row_listed : (ws : List Row) (w : Row) → IsIn w ws → IsIn (listed_row w) (map listed_row ws)
-row_listed [] w i = absurd i
-row_listed (u ∷ ws) w (inl s) = inl (ap listed_row s)
-row_listed (u ∷ ws) w (inr i) = inr (row_listed ws w i)
 
 -- what is in a list is in each that has the same in another order
 in_permutation : (xs ys : List Listed) (e : Listed) → IsPermutation xs ys → IsIn e xs → IsIn e ys
@@ -165,36 +136,25 @@ listed_found v (f ∷ es) e i s = go (f.node == v) refl i (λ j. listed_found v 
   where
     go : (b : Bool) → (f.node == v) ≡ b → IsIn e (f ∷ es) → (IsIn e es → IsSome (first_listed v es)) → IsSome (cond b (Some f.label) (first_listed v es))
     go true t j ih = refl
-    go false t (inl q) ih = absurd (not_both (eq-eqb f.node v (ap (λ (z : Listed). z.node) (sym q) ∙ s)) t)
+    go false t (inl q) ih = absurd (eqb-false f.node v t (ap (λ (z : Listed). z.node) (sym q) ∙ s))
     go false t (inr j) ih = ih j
 
 -- a directory lists each node that has a label
 directory_has : (ws : List Row) (all : List Listed) → IsDirectoryOf (map listed_row ws) all → (v : ℕ) (o : Option Row) → row_at ws v ≡ o → IsSome (option_map (λ (z : Row). z.label) o) → IsSome (first_listed v all)
-directory_has ws all d v None e s = absurd (let b : false ≡ true = s in cc)
+directory_has ws all d v None e s = absurd (false≢true s)
 directory_has ws all d v (Some w) e s =
     let f = row_found ws v w e in
-    listed_found v all (listed_row w) (in_permutation (map listed_row ws) all (listed_row w) d.same (row_listed ws w f.0)) f.1
+    listed_found v all (listed_row w) (in_permutation (map listed_row ws) all (listed_row w) d.same (in_map listed_row ws w f.0)) f.1
 
-listed_is_row : (ws : List Row) (e : Listed) → IsIn e (map listed_row ws) → (w : Row) × (IsIn w ws × (e ≡ listed_row w))
-listed_is_row [] e i = absurd i
-listed_is_row (w ∷ ws) e (inl s) = (w, (inl refl, s))
-listed_is_row (w ∷ ws) e (inr i) = (let k = listed_is_row ws e i in (k.0, (inr k.1.0, k.1.1)))
-
-home_none : (r : ℕ) (ws : List Row) (v : ℕ) (o : Option Label) → home_after None r (map listed_row ws) v o ≡ o
-home_none r [] v o = refl
-home_none r (w ∷ ws) v o = ap (home_after None r (map listed_row ws) v) (same (w.node == v)) ∙ home_none r ws v o
+-- who has another home keeps it
+home_other : (near : Option Near) (r : ℕ) (ws : List Row) (v : ℕ) (o : Option Label) → has_home near r ≡ false → home_after near r (map listed_row ws) v o ≡ o
+home_other near r [] v o e = refl
+home_other near r (w ∷ ws) v o e =
+    ap (home_after near r (map listed_row ws) v) (cond_both (w.node == v) (home_by near r w.label o) o (λ z. z ≡ o) (λ _. kept near e) (λ _. refl)) ∙ home_other near r ws v o e
   where
-    same : (b : Bool) → cond b o o ≡ o
-    same true = refl
-    same false = refl
-
-home_other : (q : Near) (r : ℕ) (ws : List Row) (v : ℕ) (o : Option Label) → (q.landmark == r) ≡ false → home_after (Some q) r (map listed_row ws) v o ≡ o
-home_other q r [] v o e = refl
-home_other q r (w ∷ ws) v o e = ap (home_after (Some q) r (map listed_row ws) v) (same (w.node == v)) ∙ home_other q r ws v o e
-  where
-    same : (b : Bool) → cond b (cond (q.landmark == r) (Some w.label) o) o ≡ o
-    same true = rw e refl
-    same false = refl
+    kept : (q : Option Near) → has_home q r ≡ false → home_by q r w.label o ≡ o
+    kept None f = refl
+    kept (Some q) f = rw f refl
 
 home_here : (q : Near) (r : ℕ) (ws : List Row) (v : ℕ) → (q.landmark == r) ≡ true → AreApart ws → home_after (Some q) r (map listed_row ws) v None ≡ label_in ws v
 home_here q r [] v e a = refl
@@ -217,13 +177,6 @@ pub from_both : (j : ℕ) (xs ys : List ℕ) → AreFrom j xs → AreFrom j ys �
 from_both j [] ys a b = b
 from_both j (x ∷ xs) ys a b = (a.0, from_both j xs ys a.1 b)
 
-less_cases : (r k : ℕ) → r < k + 1 → (r ≡ k) ⊎ (r < k)
-less_cases r k l = go (nat_lt r k) refl
-  where
-    go : (b : Bool) → nat_lt r k ≡ b → (r ≡ k) ⊎ (r < k)
-    go true e = inr (grind (arith, nat_tests))
-    go false e = inl (grind (arith, nat_tests))
-
 module _ (m : Network) (p q : Parts) (j k : ℕ) (ws : List Row) (le : j ≤ k) (h : IsBuiltBetween m p j k) (rows : AreRowsOf m p k ws) (w : IsWith p k ws (map listed_row ws) q) where
   apart_rows : AreApart ws
   apart_rows = apart_of ws rows.apart
@@ -243,12 +196,12 @@ module _ (m : Network) (p q : Parts) (j k : ℕ) (ws : List Row) (le : j ≤ k) 
     where
       none : (es : List Entry) → ((e : Entry) → IsIn e es → e.root ≡ k) → first_entry r es ≡ None
       none [] f = refl
-      none (e ∷ es) f = rw (differ e.root r (λ s. n (sym s ∙ f e (inl refl)))) (none es (λ z i. f z (inr i)))
+      none (e ∷ es) f = rw (ne_eqb e.root r (λ s. n (sym s ∙ f e (inl refl)))) (none es (λ z i. f z (inr i)))
 
   -- and the new one by its row
   first_new : (x : ℕ) → first_entry k (entries_at q x) ≡ entry_in ws x
   first_new x =
-      ap (first_entry k) (w.entries.items x) ∙ first_right k (entries_at p x) (entries_for x ws) (none_below k (entries_at p x) (h.below x)) ∙ found (entry_cases x ws apart_rows)
+      ap (first_entry k) (w.entries.items x) ∙ first_right k (entries_at p x) (entries_for x ws) (none_under k k (entries_at p x) (omega arith) (h.below x)) ∙ found (entry_cases x ws apart_rows)
     where
       found : ((entries_for x ws ≡ []) × (entry_in ws x ≡ None)) ⊎ IsOneEntry x ws (entries_for x ws) → first_entry k (entries_for x ws) ≡ entry_in ws x
       found (inl n) = ap (first_entry k) n.0 ∙ sym n.1
@@ -256,40 +209,35 @@ module _ (m : Network) (p q : Parts) (j k : ℕ) (ws : List Row) (le : j ≤ k) 
           let here : o.entry.root ≡ k = more_roots x o.entry (subst (IsIn o.entry) (sym o.entries) (inl refl)) in
           ap (first_entry k) o.entries ∙ ap (λ b. cond b (Some o.entry) None) (eq-eqb o.entry.root k here) ∙ sym o.is
 
+  -- at most one root more, the next
+  roots_after : (x : ℕ) → (roots_of (entries_at q x) ≡ roots_of (entries_at p x)) ⊎ (roots_of (entries_at q x) ≡ roots_of (entries_at p x) ++ k ∷ [])
+  roots_after x =
+      let olds = roots_of (entries_at p x) in
+      let grown : roots_of (entries_at q x) ≡ olds ++ roots_of (entries_for x ws) = ap roots_of (w.entries.items x) ∙ map-append (λ (e : Entry). e.root) (entries_at p x) (entries_for x ws) in
+      elim (entry_cases x ws apart_rows) [
+        | inl n ↦ inl (grown ∙ ap (λ z. olds ++ roots_of z) n.0 ∙ append-nil olds)
+        | inr o ↦ (
+            let here : o.entry.root ≡ k = more_roots x o.entry (subst (IsIn o.entry) (sym o.entries) (inl refl)) in
+            inr (grown ∙ ap (λ z. olds ++ roots_of z) o.entries ∙ ap (λ z. olds ++ z ∷ []) here))
+      ]
+
   still_ascends : (x : ℕ) → IsStrictlyIncreasing (roots_of (entries_at q x))
-  still_ascends x = subst (λ z. IsStrictlyIncreasing (roots_of z)) (sym (w.entries.items x)) (go (entry_cases x ws apart_rows))
-    where
-      go : ((entries_for x ws ≡ []) × (entry_in ws x ≡ None)) ⊎ IsOneEntry x ws (entries_for x ws) → IsStrictlyIncreasing (roots_of (entries_at p x ++ entries_for x ws))
-      go (inl n) = subst IsStrictlyIncreasing (sym (roots_append (entries_at p x) (entries_for x ws) ∙ ap (λ z. roots_of (entries_at p x) ++ roots_of z) n.0 ∙ nil (roots_of (entries_at p x)))) (h.ascend x)
-        where
-          nil : (xs : List ℕ) → xs ++ [] ≡ xs
-          nil [] = refl
-          nil (x ∷ xs) = ap (λ z. x ∷ z) (nil xs)
-      go (inr o) =
-          let here : o.entry.root ≡ k = more_roots x o.entry (subst (IsIn o.entry) (sym o.entries) (inl refl)) in
-          subst IsStrictlyIncreasing (sym (roots_append (entries_at p x) (entries_for x ws) ∙ ap (λ z. roots_of (entries_at p x) ++ roots_of z) o.entries ∙ ap (λ z. roots_of (entries_at p x) ++ z ∷ []) here))
-          (increasing_push (roots_of (entries_at p x)) k (h.ascend x) (h.below x))
+  still_ascends x = elim (roots_after x) [
+    | inl e ↦ subst IsStrictlyIncreasing (sym e) (h.ascend x)
+    | inr e ↦ subst IsStrictlyIncreasing (sym e) (increasing_push (roots_of (entries_at p x)) k (h.ascend x) (h.below x))
+  ]
 
   still_below : (x : ℕ) → AreBelow (k + 1) (roots_of (entries_at q x))
-  still_below x = subst (λ z. AreBelow (k + 1) (roots_of z)) (sym (w.entries.items x)) (go (entry_cases x ws apart_rows))
-    where
-      nil : (xs : List ℕ) → xs ++ [] ≡ xs
-      nil [] = refl
-      nil (x ∷ xs) = ap (λ z. x ∷ z) (nil xs)
-
-      go : ((entries_for x ws ≡ []) × (entry_in ws x ≡ None)) ⊎ IsOneEntry x ws (entries_for x ws) → AreBelow (k + 1) (roots_of (entries_at p x ++ entries_for x ws))
-      go (inl n) = subst (AreBelow (k + 1)) (sym (roots_append (entries_at p x) (entries_for x ws) ∙ ap (λ z. roots_of (entries_at p x) ++ roots_of z) n.0 ∙ nil (roots_of (entries_at p x)))) (below_more (roots_of (entries_at p x)) k (k + 1) (omega arith) (h.below x))
-      go (inr o) =
-          let here : o.entry.root ≡ k = more_roots x o.entry (subst (IsIn o.entry) (sym o.entries) (inl refl)) in
-          subst (AreBelow (k + 1)) (sym (roots_append (entries_at p x) (entries_for x ws) ∙ ap (λ z. roots_of (entries_at p x) ++ roots_of z) o.entries ∙ ap (λ z. roots_of (entries_at p x) ++ z ∷ []) here))
-          (below_push (roots_of (entries_at p x)) k (k + 1) (omega arith) (below_more (roots_of (entries_at p x)) k (k + 1) (omega arith) (h.below x)))
+  still_below x = (let olds = below_more (roots_of (entries_at p x)) k (k + 1) (omega arith) (h.below x) in elim (roots_after x) [
+    | inl e ↦ subst (AreBelow (k + 1)) (sym e) olds
+    | inr e ↦ subst (AreBelow (k + 1)) (sym e) (below_both (k + 1) (roots_of (entries_at p x)) (k ∷ []) olds (omega arith, tt))
+  ])
 
   still_from : (x : ℕ) → AreFrom j (roots_of (entries_at q x))
-  still_from x = subst (λ z. AreFrom j z) (sym (ap roots_of (w.entries.items x) ∙ roots_append (entries_at p x) (entries_for x ws))) (from_both j (roots_of (entries_at p x)) (roots_of (entries_for x ws)) (h.from x) (all (entries_for x ws) (more_roots x)))
-    where
-      all : (es : List Entry) → ((e : Entry) → IsIn e es → e.root ≡ k) → AreFrom j (roots_of es)
-      all [] f = tt
-      all (e ∷ es) f = ((let s = f e (inl refl) in omega (arith, s, le)), all es (λ z i. f z (inr i)))
+  still_from x = elim (roots_after x) [
+    | inl e ↦ subst (AreFrom j) (sym e) (h.from x)
+    | inr e ↦ subst (AreFrom j) (sym e) (from_both j (roots_of (entries_at p x)) (k ∷ []) (h.from x) (le, tt))
+  ]
 
   old_column : (r : ℕ) → j ≤ r → r < k → HasColumn m q r
   old_column r b l =
@@ -298,7 +246,7 @@ module _ (m : Network) (p q : Parts) (j k : ℕ) (ws : List Row) (le : j ≤ k) 
     where
       homes : (v : ℕ) (z : Near) → (tables p).nearest v ≡ Some z → z.landmark ≡ r → (tables q).home v ≡ (tables p).home v
       homes v z g s =
-          w.homes v ∙ ap (λ o. home_after o k (map listed_row ws) v ((tables p).home v)) g ∙ home_other z k ws v ((tables p).home v) (differ z.landmark k (λ e. (let a = sym s ∙ e in omega (arith, l, a))))
+          w.homes v ∙ ap (λ o. home_after o k (map listed_row ws) v ((tables p).home v)) g ∙ home_other (Some z) k ws v ((tables p).home v) (ne_eqb z.landmark k (λ e. (let a = sym s ∙ e in omega (arith, l, a))))
 
   new_column : HasColumn m q k
   new_column = record {
@@ -322,7 +270,7 @@ module _ (m : Network) (p q : Parts) (j k : ℕ) (ws : List Row) (le : j ≤ k) 
       listed true t e i = absurd (subst (IsListed e) (empty_directory t) i)
       listed false t e i =
           let same = (own_directory t).same in
-          let r = listed_is_row ws e (in_permutation (directory_at q k) (map listed_row ws) e (IsPermutation-sym (map listed_row ws) (directory_at q k) same) (is_listed e (directory_at q k) i)) in
+          let r = map_in listed_row ws e (in_permutation (directory_at q k) (map listed_row ws) e (IsPermutation-sym (map listed_row ws) (directory_at q k) same) (is_listed e (directory_at q k) i)) in
           ap (label_in ws) (ap (λ (z : Listed). z.node) r.1.1) ∙ ap (λ o. option_map (λ (z : Row). z.label) o) (row_own ws apart_rows r.0 r.1.0) ∙ ap (λ (z : Listed). Some z.label) (sym r.1.1)
 
       ascend : (b : Bool) → (tables p).landmark k ≡ b → IsStrictlyIncreasing (nodes_of (directory_at q k))
@@ -334,16 +282,16 @@ module _ (m : Network) (p q : Parts) (j k : ℕ) (ws : List Row) (le : j ≤ k) 
           w.homes v ∙ ap (λ o. home_after o k (map listed_row ws) v ((tables p).home v)) g ∙ ap (home_after (Some z) k (map listed_row ws) v) (h.homes_fresh v z g (omega (arith, s))) ∙ home_here z k ws v (eq-eqb z.landmark k s) apart_rows
 
   homes_near : (v : ℕ) (o : Option Near) → (tables p).nearest v ≡ o → IsSome ((tables q).home v) → IsSome o
-  homes_near v None g s = subst IsSome g (h.homes_near v (subst IsSome (w.homes v ∙ ap (λ o. home_after o k (map listed_row ws) v ((tables p).home v)) g ∙ home_none k ws v ((tables p).home v)) s))
+  homes_near v None g s = subst IsSome g (h.homes_near v (subst IsSome (w.homes v ∙ ap (λ o. home_after o k (map listed_row ws) v ((tables p).home v)) g ∙ home_other None k ws v ((tables p).home v) refl) s))
   homes_near v (Some z) g s = refl
 
   homes_fresh : (v : ℕ) (z : Near) → (tables p).nearest v ≡ Some z → k + 1 ≤ z.landmark → (tables q).home v ≡ None
   homes_fresh v z g l =
-      w.homes v ∙ ap (λ o. home_after o k (map listed_row ws) v ((tables p).home v)) g ∙ home_other z k ws v ((tables p).home v) (unequal k z.landmark (omega (arith, l))) ∙ h.homes_fresh v z g (omega (arith, l))
+      w.homes v ∙ ap (λ o. home_after o k (map listed_row ws) v ((tables p).home v)) g ∙ home_other (Some z) k ws v ((tables p).home v) (ne_eqb z.landmark k (λ e. omega (arith, l, e))) ∙ h.homes_fresh v z g (omega (arith, l))
 
   homes_before : (v : ℕ) (z : Near) → (tables p).nearest v ≡ Some z → z.landmark < j → (tables q).home v ≡ None
   homes_before v z g l =
-      w.homes v ∙ ap (λ o. home_after o k (map listed_row ws) v ((tables p).home v)) g ∙ home_other z k ws v ((tables p).home v) (differ z.landmark k (λ e. omega (arith, l, le, e))) ∙ h.homes_before v z g l
+      w.homes v ∙ ap (λ o. home_after o k (map listed_row ws) v ((tables p).home v)) g ∙ home_other (Some z) k ws v ((tables p).home v) (ne_eqb z.landmark k (λ e. omega (arith, l, le, e))) ∙ h.homes_before v z g l
 
   pub built_more : IsBuiltBetween m q j (k + 1)
   built_more = record {
@@ -359,7 +307,7 @@ module _ (m : Network) (p q : Parts) (j k : ℕ) (ws : List Row) (le : j ≤ k) 
     ascend = still_ascends;
     below = still_below;
     from = still_from;
-    columns = λ r a l. elim (less_cases r k l) [ inl s ↦ subst (HasColumn m q) (sym s) new_column | inr b ↦ old_column r a b ];
+    columns = λ r a l. elim (cases_lt r k) [ inl b ↦ old_column r a b | inr b ↦ (let s : k ≡ r = omega (arith, l, b) in subst (HasColumn m q) s new_column) ];
     homes_near = λ v s. subst IsSome (sym (nearest_same v)) (homes_near v ((tables p).nearest v) refl s);
     fresh = λ u l. w.other_directories u (λ s. omega (arith, l, s)) ∙ h.fresh u (omega (arith, l));
     fresh_before = λ u l. w.other_directories u (λ s. omega (arith, l, le, s)) ∙ h.fresh_before u l;
@@ -409,7 +357,7 @@ built_first m p nodes landmarks ports each nearest is entries none directories e
   below = λ x. subst (λ z. AreBelow j (roots_of z)) (sym (none x)) tt;
   from = λ x. subst (λ z. AreFrom j (roots_of z)) (sym (none x)) tt;
   columns = λ r a l. absurd (omega (arith, a, l));
-  homes_near = λ v s. absurd (let b : false ≡ true = subst IsSome (unset v) s in cc);
+  homes_near = λ v s. absurd (false≢true (subst IsSome (unset v) s));
   fresh = λ u l. empty u;
   fresh_before = λ u l. empty u;
   homes_fresh = λ v q g l. unset v;

@@ -5,7 +5,10 @@ use Rattle.std.specs.Option.{option_map}
 use Rattle.std.specs.List.{All, AllByRecursion, Contains, IsDistinct}
 use Rattle.std.proofs.lemmas.List.Sorted.{Contains-permutation, IsPermutation-sym}
 use Rattle.std.proofs.lemmas.Map.Keys.{IsDistinct-IsPermutation, IsDistinct-head, IsDistinct-tail}
-use Rattle.std.proofs.lemmas.Bool.{eqb-true, eq-eqb}
+use Rattle.std.proofs.lemmas.Bool.{eqb-true, eq-eqb, both_ways, cases_eq, cond_both, eqb-false, ne_eqb}
+use Rattle.std.proofs.lemmas.List.{length-map}
+use Rattle.std.proofs.lemmas.List.Elements.{All-contains, All-map, Contains-get_or}
+use Rattle.std.proofs.lemmas.Simd.{map-map}
 use Rattle.graph_edits.specs.Edges.{Network, IsSound}
 use Rattle.graph_edits.specs.Walks.{IsLeast}
 use Rattle.distances.specs.Search.{is_below}
@@ -23,51 +26,19 @@ use Rattle.heavy_labels.specs.declared.numbered_member.NumberedMember.{NumberedM
 use Rattle.schemes.specs.Entry.{Entry}
 use Rattle.schemes.specs.Checks.{up_port, down_port}
 use Rattle.node_table.specs.Columns.{up_by, down_by, member_of, LacksMember, AreDistinct, FitsEntry, IsTightFrom, IsParentIn, IsColumn}
-use Rattle.node_table.specs.RowLists.{Row, nodes_in, nodes_numbered, row_at, entry_in, label_in}
+use Rattle.node_table.specs.RowLists.{Row, nodes_numbered, row_at, entry_in, label_in}
 use Rattle.node_table.proofs.Builds.MadeRows.{IsRowOf, IsRowFrom, IsRowList}
-use Rattle.node_table.proofs.Builds.TreeMembers.{IsIn, is_in_of, contains_of, all_in, distinct_members, laid_members, ChildrenReached, same_distance, parent_reached, farther, begins_with_root, at_in, in_at, one_place, exact_in, parent_in, reached_inside, reached_members, first_member}
-use Rattle.schemes.proofs.Basics.Options.{some_is, same_value}
-
-none_some : {X : Type 0} {x : X} {o : Option X} → o ≡ None → o ≡ Some x → ⊥
-none_some e f = cc
+use Rattle.node_table.proofs.Builds.TreeMembers.{IsIn, is_in_of, contains_of, all_in, distinct_members, laid_members, ChildrenReached, same_distance, farther, begins_with_root, at_in, in_at, one_place, exact_in, parent_in, reached_inside, reached_members, in_map, map_in}
+use Rattle.schemes.proofs.Basics.Options.{some_is, same_value, not_none}
 
 -- ---- lists of nodes
 
-in_members : (m : Network) (ks : List Reached) (k : Reached) → IsIn k ks → IsIn k.node (map (λ (a : Member). a.node) (map (member_of m) ks))
-in_members m [] k i = absurd i
-in_members m (a ∷ ks) k (inl e) = inl (ap (λ (z : Reached). z.node) e)
-in_members m (a ∷ ks) k (inr i) = inr (in_members m ks k i)
-
-members_in : (m : Network) (ks : List Reached) (x : ℕ) → IsIn x (map (λ (a : Member). a.node) (map (member_of m) ks)) → (k : Reached) × (IsIn k ks × (k.node ≡ x))
-members_in m [] x i = absurd i
-members_in m (a ∷ ks) x (inl e) = (a, (inl refl, sym e))
-members_in m (a ∷ ks) x (inr i) = (let k = members_in m ks x i in (k.0, (inr k.1.0, k.1.1)))
-
-reached_named : (ks : List Reached) (x : ℕ) → IsIn x (map (λ (k : Reached). k.node) ks) → (k : Reached) × (IsIn k ks × (k.node ≡ x))
-reached_named [] x i = absurd i
-reached_named (a ∷ ks) x (inl e) = (a, (inl refl, sym e))
-reached_named (a ∷ ks) x (inr i) = (let k = reached_named ks x i in (k.0, (inr k.1.0, k.1.1)))
-
-in_numbers : (ns : List NumberedMember) (n : NumberedMember) → IsIn n ns → IsIn n.node (map (λ (a : NumberedMember). a.node) ns)
-in_numbers [] n i = absurd i
-in_numbers (a ∷ ns) n (inl e) = inl (ap (λ (z : NumberedMember). z.node) e)
-in_numbers (a ∷ ns) n (inr i) = inr (in_numbers ns n i)
-
-row_named : (ws : List Row) (x : ℕ) → IsIn x (nodes_in ws) → (w : Row) × (IsIn w ws × (w.node ≡ x))
-row_named [] x i = absurd i
-row_named (a ∷ ws) x (inl e) = (a, (inl refl, sym e))
-row_named (a ∷ ws) x (inr i) = (let k = row_named ws x i in (k.0, (inr k.1.0, k.1.1)))
-
-not_equal : (a b : ℕ) → (a ≡ b → ⊥) → nat_eq a b ≡ false
-not_equal a b h = go (nat_eq a b) refl
-  where
-    go : (c : Bool) → nat_eq a b ≡ c → c ≡ false
-    go false e = refl
-    go true e = absurd (h (eqb-true a b e))
+reached_nodes : (m : Network) (ks : List Reached) → map (λ (a : Member). a.node) (map (member_of m) ks) ≡ map (λ (k : Reached). k.node) ks
+reached_nodes m ks = map-map (λ (a : Member). a.node) (member_of m) ks
 
 lacks_all : (x : ℕ) (ms : List Member) → LacksMember x ms → AllByRecursion (λ y. nat_eq x y ≡ false) (map (λ (a : Member). a.node) ms)
 lacks_all x [] l = tt
-lacks_all x (a ∷ ms) l = (not_equal x a.node l.0, lacks_all x ms l.1)
+lacks_all x (a ∷ ms) l = (ne_eqb x a.node l.0, lacks_all x ms l.1)
 
 distinct_nodes : (ms : List Member) → AreDistinct ms → IsDistinct nat_eq (map (λ (a : Member). a.node) ms)
 unfolding IsDistinct
@@ -75,15 +46,14 @@ distinct_nodes [] d = tt
 distinct_nodes (a ∷ ms) d = (lacks_all a.node ms d.0, distinct_nodes ms d.1)
 
 pub flips : (x y : ℕ) → nat_eq x y ≡ nat_eq y x
-flips x y = go (nat_eq x y) refl
-  where
-    go : (c : Bool) → nat_eq x y ≡ c → c ≡ nat_eq y x
-    go true e = sym (eq-eqb y x (sym (eqb-true x y e)))
-    go false e = sym (not_equal y x (λ q. (let b : nat_eq x y ≡ true = eq-eqb x y (sym q) in let z : true ≡ false = sym b ∙ e in cc)))
+flips x y = elim (cases_eq x y) [
+  | inl e ↦ eq-eqb x y e ∙ sym (eq-eqb y x (sym e))
+  | inr ne ↦ ne_eqb x y ne ∙ sym (ne_eqb y x (λ e. ne (sym e)))
+]
 
 apart_in : (x : ℕ) (ns : List NumberedMember) → AllByRecursion (λ y. nat_eq x y ≡ false) (map (λ (a : NumberedMember). a.node) ns) → (n : NumberedMember) → IsIn n ns → x ≡ n.node → ⊥
 apart_in x [] a n i e = i
-apart_in x (b ∷ ns) a n (inl s) e = (let k : nat_eq x b.node ≡ true = eq-eqb x b.node (e ∙ ap (λ (z : NumberedMember). z.node) s) in let z : true ≡ false = sym k ∙ a.0 in cc)
+apart_in x (b ∷ ns) a n (inl s) e = both_ways (nat_eq x b.node) a.0 (eq-eqb x b.node (e ∙ ap (λ (z : NumberedMember). z.node) s))
 apart_in x (b ∷ ns) a n (inr i) e = apart_in x ns a.1 n i e
 
 same_numbered : (ns : List NumberedMember) → IsDistinct nat_eq (map (λ (a : NumberedMember). a.node) ns) → (a b : NumberedMember) → IsIn a ns → IsIn b ns → a.node ≡ b.node → a ≡ b
@@ -96,12 +66,9 @@ same_numbered (n ∷ ns) d a b (inr i) (inr j) e = same_numbered ns (IsDistinct-
 -- ---- rows
 
 pub row_found : (ws : List Row) (x : ℕ) (w : Row) → row_at ws x ≡ Some w → IsIn w ws × (w.node ≡ x)
-row_found [] x w e = absurd (none_some refl e)
-row_found (a ∷ ws) x w e = go (a.node == x) refl (λ q. row_found ws x w q) e
-  where
-    go : (b : Bool) → (a.node == x) ≡ b → (row_at ws x ≡ Some w → IsIn w ws × (w.node ≡ x)) → cond b (Some a) (row_at ws x) ≡ Some w → IsIn w (a ∷ ws) × (w.node ≡ x)
-    go true t ih q = (let s : a ≡ w = same_value refl q in (inl (sym s), ap (λ (z : Row). z.node) (sym s) ∙ eqb-true a.node x t))
-    go false t ih q = (let k = ih q in (inr k.0, k.1))
+row_found [] x w e = absurd (not_none e refl)
+row_found (a ∷ ws) x w e = cond_both (a.node == x) (Some a) (row_at ws x) (λ o. o ≡ Some w → IsIn w (a ∷ ws) × (w.node ≡ x))
+    (λ t q. (let s : a ≡ w = same_value refl q in (inl (sym s), ap (λ (z : Row). z.node) (sym s) ∙ eqb-true a.node x t))) (λ _ q. (let k = row_found ws x w q in (inr k.0, k.1))) e
 
 pub row_there : (ws : List Row) (x : ℕ) (w : Row) → IsIn w ws → w.node ≡ x → (v : Row) × (row_at ws x ≡ Some v)
 row_there [] x w i e = absurd i
@@ -109,7 +76,7 @@ row_there (a ∷ ws) x w i e = go (a.node == x) refl i (λ j. row_there ws x w j
   where
     go : (b : Bool) → (a.node == x) ≡ b → IsIn w (a ∷ ws) → (IsIn w ws → (v : Row) × (row_at ws x ≡ Some v)) → (v : Row) × (cond b (Some a) (row_at ws x) ≡ Some v)
     go true t j ih = (a, refl)
-    go false t (inl s) ih = absurd (let k : (a.node == x) ≡ true = eq-eqb a.node x (ap (λ (z : Row). z.node) (sym s) ∙ e) in let z : true ≡ false = sym k ∙ t in cc)
+    go false t (inl s) ih = absurd (eqb-false a.node x t (ap (λ (z : Row). z.node) (sym s) ∙ e))
     go false t (inr j) ih = ih j
 
 -- the ports of a member are those of its entry
@@ -150,7 +117,7 @@ module _ (m : Network) (sound : IsSound m) (r : ℕ) (r_in : r < m.nodes) (limit
   row_of x e g = go (row_at ws x) refl g
     where
       go : (o : Option Row) → row_at ws x ≡ o → option_map (λ w. w.entry) o ≡ Some e → (w : Row) × ((row_at ws x ≡ Some w) × (w.entry ≡ e))
-      go None q k = absurd (none_some refl k)
+      go None q k = absurd (not_none k refl)
       go (Some w) q k = (w, (q, same_value refl k))
 
   -- a node with an entry was reached
@@ -165,10 +132,10 @@ module _ (m : Network) (sound : IsSound m) (r : ℕ) (r_in : r < m.nodes) (limit
   -- and what was reached has an entry
   entry_of : (k : Reached) → IsIn k ks → (e : Entry) × ((entry_in ws k.node ≡ Some e) × ((e.distance ≡ k.distance) × (e.parent ≡ k.parent)))
   entry_of k i =
-      let among = Contains-permutation (map (λ (a : Member). a.node) (map (member_of m) ks)) (map (λ (n : NumberedMember). n.node) ns) k.node same
-      (contains_of (map (λ (a : Member). a.node) (map (member_of m) ks)) k.node (in_members m ks k i)) in
-      let w = row_named ws k.node (subst (IsIn k.node) (sym rows.nodes) (is_in_of (nodes_numbered ns) k.node among)) in
-      let v = row_there ws k.node w.0 w.1.0 w.1.1 in
+      let there = subst (IsIn k.node) (sym (reached_nodes m ks)) (in_map (λ (z : Reached). z.node) ks k i) in
+      let among = Contains-permutation (map (λ (a : Member). a.node) (map (member_of m) ks)) (nodes_numbered ns) k.node same (contains_of (map (λ (a : Member). a.node) (map (member_of m) ks)) k.node there) in
+      let w = map_in (λ (z : Row). z.node) ws k.node (subst (IsIn k.node) (sym rows.nodes) (is_in_of (nodes_numbered ns) k.node among)) in
+      let v = row_there ws k.node w.0 w.1.0 (sym w.1.1) in
       let is : entry_in ws k.node ≡ Some v.0.entry = ap (λ o. option_map (λ z. z.entry) o) v.1 in
       let back = reached_of k.node v.0.entry is in
       let one = same_reached back.0 k back.1.0 i back.1.1.0 in
@@ -231,12 +198,12 @@ module _ (m : Network) (sound : IsSound m) (r : ℕ) (r_in : r < m.nodes) (limit
       IsDistinct-IsPermutation nat_eq flips (map (λ (a : Member). a.node) (map (member_of m) ks)) (map (λ (n : NumberedMember). n.node) ns) same
       (distinct_nodes (map (member_of m) ks) (distinct_members m ks h.ascending (same_distance m sound r r_in limit ks h root_within)))
 
-  numbered_reached : (n : NumberedMember) → IsIn n ns → (k : Reached) × (IsIn k ks × (k.node ≡ n.node))
+  numbered_reached : (n : NumberedMember) → IsIn n ns → (k : Reached) × (IsIn k ks × (n.node ≡ k.node))
   numbered_reached n i =
-      let among = Contains-permutation (map (λ (n : NumberedMember). n.node) ns) (map (λ (a : Member). a.node) (map (member_of m) ks)) n.node
-      (IsPermutation-sym (map (λ (a : Member). a.node) (map (member_of m) ks)) (map (λ (n : NumberedMember). n.node) ns) same)
-      (contains_of (map (λ (n : NumberedMember). n.node) ns) n.node (in_numbers ns n i)) in
-      members_in m ks n.node (is_in_of (map (λ (a : Member). a.node) (map (member_of m) ks)) n.node among)
+      let among = Contains-permutation (nodes_numbered ns) (map (λ (a : Member). a.node) (map (member_of m) ks)) n.node
+      (IsPermutation-sym (map (λ (a : Member). a.node) (map (member_of m) ks)) (nodes_numbered ns) same)
+      (contains_of (nodes_numbered ns) n.node (in_map (λ (z : NumberedMember). z.node) ns n i)) in
+      map_in (λ (z : Reached). z.node) ks n.node (subst (IsIn n.node) (reached_nodes m ks) (is_in_of (map (λ (a : Member). a.node) (map (member_of m) ks)) n.node among))
 
   line_entry : (d : Tree) (p : Place) (above : Line) → Among (p ∷ above) (tree_lines (first_or d (subtrees (map (member_of m) ks))))
       → (e : Entry) × ((entry_in ws p.node ≡ Some e) × ((record_of e.tree_record ≡ p.tree_record) × (label_in ws p.node ≡ Some p.label)))
@@ -246,7 +213,7 @@ module _ (m : Network) (sound : IsSound m) (r : ℕ) (r_in : r < m.nodes) (limit
       let node_is : n.0.node ≡ p.node = ap (λ (b : Brief). b.0) (sym n.1.1) in
       let k = numbered_reached n.0 n.1.0 in
       let e = entry_of k.0 k.1.0 in
-      let is : entry_in ws p.node ≡ Some e.0 = ap (entry_in ws) (sym node_is ∙ sym k.1.1) ∙ e.1.0 in
+      let is : entry_in ws p.node ≡ Some e.0 = ap (entry_in ws) (sym node_is ∙ k.1.1) ∙ e.1.0 in
       let w = row_of p.node e.0 is in
       let f = row_found ws p.node w.0 w.1.0 in
       let g = parts_of w.0 f.0 in
@@ -285,55 +252,23 @@ column_of m s r i limit ks tree below all e nm ns q lines perm ws rows =
     (subst (λ z. IsPermutation (map (λ (a : Member). a.node) z) (map (λ (n : NumberedMember). n.node) nm)) e perm) ws (subst (λ z. IsRowList r ks z ws) q rows)
 
 module _ (m : Network) (sound : IsSound m) (r : ℕ) (r_in : r < m.nodes) (ks : List Reached) (h : (limit : ℕ → Option ℕ) × (IsTree m.edges r limit ks × (is_below 0 (limit r) ≡ true))) where
-  pub parents_inside : All (λ (k : Reached). (y : ℕ) → k.parent ≡ Some y → y < m.nodes) ks
-  parents_inside i d l y e =
-      let j = parent_reached m sound r r_in h.0 ks h.1.0 h.1.1 (get_or ks i d) y (in_at ks i d l) e in
-      subst (λ z. z < m.nodes) j.1.1.1.0 (reached_inside m sound r r_in h.0 ks h.1.0 h.1.1 j.0 j.1.1.0)
-
   pub are_members : AreMembers (map (member_of m) ks)
   are_members = reached_members m sound r r_in h.0 ks h.1.0 h.1.1 (record { node = 0; distance = 0; parent = None })
 
-  pub root_first : (d : Member) → (get_or (map (member_of m) ks) 0 d).node ≡ r
-  root_first d = first_member m sound r r_in h.0 ks h.1.0 h.1.1 d
-
-  length_members : (xs : List Reached) → length (map (member_of m) xs) ≡ length xs
-  length_members [] = refl
-  length_members (x ∷ xs) = omega (arith, length_members xs)
-
   pub few_members : length ks ≤ MOST_MEMBERS
-  few_members = (let n = length_members ks in let f = are_members.few in omega (arith, n, f))
-
-  pub few_numbered : length (map (member_of m) ks) ≤ MOST_MEMBERS
-  few_numbered = (let f = are_members.few in omega (arith, f))
+  few_members = (let n = length-map ks (member_of m) in let f = are_members.few in omega (arith, n, f))
 
   pub nodes_inside : All (λ x. x < m.nodes) (map (λ (k : Reached). k.node) ks)
-  nodes_inside i d l = go (get_or (map (λ (k : Reached). k.node) ks) i d) (in_at (map (λ (k : Reached). k.node) ks) i d l)
-    where
-      go : (x : ℕ) → IsIn x (map (λ (k : Reached). k.node) ks) → x < m.nodes
-      go x i = (let k = reached_named ks x i in subst (λ z. z < m.nodes) k.1.1 (reached_inside m sound r r_in h.0 ks h.1.0 h.1.1 k.0 k.1.0))
+  nodes_inside = All-map (λ x. x < m.nodes) (λ (k : Reached). k.node) ks (λ i d l. reached_inside m sound r r_in h.0 ks h.1.0 h.1.1 (get_or ks i d) (in_at ks i d l))
 
   pub numbers_reached : (ns : List NumberedMember) → IsPermutation (map (λ (a : Member). a.node) (map (member_of m) ks)) (nodes_numbered ns) → All (λ x. Contains (map (λ (k : Reached). k.node) ks) x) (nodes_numbered ns)
   numbers_reached ns same i d l =
       let x = get_or (nodes_numbered ns) i d in
-      let among = Contains-permutation (nodes_numbered ns) (map (λ (a : Member). a.node) (map (member_of m) ks)) x
-      (IsPermutation-sym (map (λ (a : Member). a.node) (map (member_of m) ks)) (nodes_numbered ns) same)
-      (contains_of (nodes_numbered ns) x (in_at (nodes_numbered ns) i d l)) in
-      let k = members_in m ks x (is_in_of (map (λ (a : Member). a.node) (map (member_of m) ks)) x among) in
-      subst (Contains (map (λ (k : Reached). k.node) ks)) k.1.1 (contains_of (map (λ (k : Reached). k.node) ks) k.0.node (in_reached ks k.0 k.1.0))
-    where
-      in_reached : (xs : List Reached) (k : Reached) → IsIn k xs → IsIn k.node (map (λ (z : Reached). z.node) xs)
-      in_reached [] k i = absurd i
-      in_reached (a ∷ xs) k (inl e) = inl (ap (λ (z : Reached). z.node) e)
-      in_reached (a ∷ xs) k (inr i) = inr (in_reached xs k i)
+      let xs = map (λ (a : Member). a.node) (map (member_of m) ks) in
+      subst (λ ys. Contains ys x) (reached_nodes m ks) (Contains-permutation (nodes_numbered ns) xs x (IsPermutation-sym xs (nodes_numbered ns) same) (Contains-get_or (nodes_numbered ns) i d l))
 
   pub numbers_inside : (ns : List NumberedMember) → IsPermutation (map (λ (a : Member). a.node) (map (member_of m) ks)) (map (λ (n : NumberedMember). n.node) ns) → All (λ x. x < m.nodes) (map (λ (n : NumberedMember). n.node) ns)
-  numbers_inside ns same i d l =
-      let x = get_or (map (λ (n : NumberedMember). n.node) ns) i d in
-      let among = Contains-permutation (map (λ (n : NumberedMember). n.node) ns) (map (λ (a : Member). a.node) (map (member_of m) ks)) x
-      (IsPermutation-sym (map (λ (a : Member). a.node) (map (member_of m) ks)) (map (λ (n : NumberedMember). n.node) ns) same)
-      (contains_of (map (λ (n : NumberedMember). n.node) ns) x (in_at (map (λ (n : NumberedMember). n.node) ns) i d l)) in
-      let k = members_in m ks x (is_in_of (map (λ (a : Member). a.node) (map (member_of m) ks)) x among) in
-      subst (λ z. z < m.nodes) k.1.1 (reached_inside m sound r r_in h.0 ks h.1.0 h.1.1 k.0 k.1.0)
+  numbers_inside ns same i d l = All-contains (λ x. x < m.nodes) (map (λ (k : Reached). k.node) ks) (get_or (nodes_numbered ns) i d) nodes_inside (numbers_reached ns same i d l)
 
   pub key_columns : (ns : List NumberedMember) → IsPermutation (map (λ (a : Member). a.node) (map (member_of m) ks)) (nodes_numbered ns) → IsDistinct nat_eq (nodes_numbered ns)
   key_columns ns same =

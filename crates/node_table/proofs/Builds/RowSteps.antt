@@ -3,8 +3,10 @@ use Rattle.std.proofs.Common.{◌≡◌, ℕ, zero, suc, ◌+◌, ◌≤◌, ◌
 use Rattle.std.specs.Prelude.{Option, Some, None, slice_index}
 use Rattle.std.specs.List.{All, Contains}
 use Rattle.std.specs.List.Sorted.{IsStrictlyIncreasing}
-use Rattle.std.proofs.lemmas.List.{get_or-map}
+use Rattle.std.proofs.lemmas.List.{get_or-map, get_or_default, length-map}
 use Rattle.std.proofs.Math.ListN.{set}
+use Rattle.std.proofs.lemmas.List.Elements.{All-map}
+use Rattle.std.proofs.lemmas.Simd.{map-map}
 use Rattle.graph_edits.specs.Edges.{Network}
 use Rattle.distances.specs.declared.reach.Reached.{Reached}
 use Rattle.distances.specs.declared.linked.Linked.{Linked}
@@ -13,7 +15,7 @@ use Rattle.route_tree.specs.declared.member.Member.{Member}
 use Rattle.route_tree.specs.Growth.{IsEachOnce}
 use Rattle.route_tree.specs.Places.{HasPlaces}
 use Rattle.heavy_labels.specs.declared.numbered_member.NumberedMember.{NumberedMember}
-use Rattle.node_table.specs.Columns.{AreBelow, linked_member, member_of, up_by, down_by}
+use Rattle.node_table.specs.Columns.{AreBelow, linked_member, member_of, up_by, down_by, AreFrom}
 use Rattle.node_table.specs.RowLists.{Row, nobody, nodes_in, nodes_linked, nodes_numbered, row_by, rows_by}
 use Rattle.schemes.specs.Places.{ArePlaces, ArePlacesTo}
 use Rattle.node_table.proofs.Builds.MadeRows.{IsRowFrom, IsRowList}
@@ -41,16 +43,13 @@ members_are m [] h = refl
 members_are m (k ∷ ks) h = ap (λ a. a ∷ map linked_member ks) (member_is m k (h 0 k (omega arith))) ∙ ap (λ rest. member_of m k.reached ∷ rest) (members_are m ks (λ i d l. h (suc i) d (omega (arith, l))))
 
 pub nodes_are : (ks : List Linked) → nodes_linked ks ≡ map (λ (k : Reached). k.node) (reached_of ks)
-nodes_are [] = refl
-nodes_are (k ∷ ks) = ap (λ z. k.reached.node ∷ z) (nodes_are ks)
+nodes_are ks = sym (map-map (λ (k : Reached). k.node) (λ (k : Linked). k.reached) ks)
 
 pub reached_length : (ks : List Linked) → length (reached_of ks) ≡ length ks
-reached_length [] = refl
-reached_length (k ∷ ks) = omega (arith, reached_length ks)
+reached_length ks = length-map ks (λ (k : Linked). k.reached)
 
 pub linked_length : (ks : List Linked) → length (nodes_linked ks) ≡ length ks
-linked_length [] = refl
-linked_length (k ∷ ks) = omega (arith, linked_length ks)
+linked_length ks = length-map ks (λ (k : Linked). k.reached.node)
 
 -- ---- places
 
@@ -69,28 +68,23 @@ place_noted ks n z table h l inside =
 -- where a node was reached
 pub place_found : (ks : List Linked) (table : List ℕ) (x : ℕ) → ArePlaces (nodes_linked ks) table → Contains (nodes_linked ks) x → (slice_index table x < length ks) × ((z : Linked) → (get_or ks (slice_index table x) z).reached.node ≡ x)
 place_found ks table x h c =
-    let at : slice_index (nodes_linked ks) c.0 ≡ x = same_default (nodes_linked ks) c.0 0 x c.1 ∙ c.2 in
+    let at : slice_index (nodes_linked ks) c.0 ≡ x = get_or_default (nodes_linked ks) c.0 0 x c.1 ∙ c.2 in
     let there = h c.0 c.1 in
     let inside : slice_index table x < length (nodes_linked ks) = subst (λ z. slice_index table z < length (nodes_linked ks)) at there.0 in
     let is : slice_index (nodes_linked ks) (slice_index table x) ≡ x = subst (λ z. slice_index (nodes_linked ks) (slice_index table z) ≡ z) at there.1 in
     let here : slice_index table x < length ks = (let n = linked_length ks in omega (arith, n, inside)) in
     (here, λ z. sym (get_or-map (λ (k : Linked). k.reached.node) ks (slice_index table x) z 0 here) ∙ is)
-  where
-    same_default : (xs : List ℕ) (i a b : ℕ) → i < length xs → get_or xs i a ≡ get_or xs i b
-    same_default [] i a b l = absurd (omega (arith, l))
-    same_default (y ∷ ys) zero a b l = refl
-    same_default (y ∷ ys) (suc i) a b l = same_default ys i a b (omega (arith, l))
 
 -- the same, where each node is there once
 pub has_places : (ks : List Linked) (table : List ℕ) → ArePlaces (nodes_linked ks) table → All (λ x. x < length table) (nodes_linked ks) → IsEachOnce (map linked_member ks) → HasPlaces (map linked_member ks) table
 has_places ks table h inside once = record {
   fits = λ k d l. (let many = linked_length ks in
-      let as_many = members_length ks in
+      let as_many = length-map ks linked_member in
       let e = member_node k d (omega (arith, as_many, l)) in
       let i = inside k 0 (omega (arith, many, as_many, l)) in
       omega (arith, e, i));
   there = λ k d l. (let many = linked_length ks in
-      let as_many = members_length ks in
+      let as_many = length-map ks linked_member in
       let at = h k (omega (arith, many, as_many, l)) in
       let e = member_node k d (omega (arith, as_many, l)) in
       let p = slice_index table (slice_index (nodes_linked ks) k) in
@@ -98,23 +92,15 @@ has_places ks table h inside once = record {
       ap (slice_index table) e ∙ once p k d d (omega (arith, many, as_many, at.0)) l (f ∙ at.1 ∙ sym e));
 }
   where
-    members_length : (xs : List Linked) → length (map linked_member xs) ≡ length xs
-    members_length [] = refl
-    members_length (x ∷ xs) = omega (arith, members_length xs)
-
     member_node : (k : ℕ) (d : Member) → k < length ks → (get_or (map linked_member ks) k d).node ≡ slice_index (nodes_linked ks) k
     member_node k d l = ap (λ (a : Member). a.node) (get_or-map linked_member ks k nobody d l) ∙ sym (node_at ks k nobody l)
 
 -- ---- rows
 
-number_length : (ns : List NumberedMember) → length (nodes_numbered ns) ≡ length ns
-number_length [] = refl
-number_length (n ∷ ns) = omega (arith, number_length ns)
-
 -- what holds of the nodes of all numbered members holds of each member's
 pub members_have : (P : ℕ → Type 0) (ns : List NumberedMember) → All P (nodes_numbered ns) → All (λ (n : NumberedMember). P n.node) ns
 members_have P ns h i d l =
-    let many = number_length ns in
+    let many = length-map ns (λ (a : NumberedMember). a.node) in
     subst P (get_or-map (λ (a : NumberedMember). a.node) ns i d 0 l) (h i 0 (omega (arith, many, l)))
 
 -- something was reached at the place of each numbered member
@@ -124,21 +110,13 @@ members_reached ks table ns h c i d l = (place_found ks table (get_or ns i d).no
 
 -- each row has its numbered member's node
 pub rows_nodes : (r : ℕ) (ks : List Linked) (table : List ℕ) (ns : List NumberedMember) → nodes_in (rows_by r ks table ns) ≡ nodes_numbered ns
-rows_nodes r ks table [] = refl
-rows_nodes r ks table (n ∷ ns) = ap (λ z. n.node ∷ z) (rows_nodes r ks table ns)
-
--- a row of the list is the row of the numbered member at its place
-row_there : (r : ℕ) (ks : List Linked) (table : List ℕ) (ns : List NumberedMember) (i : ℕ) (d : Row) → i < length (rows_by r ks table ns)
-    → (n : NumberedMember) × ((i < length ns) × (((z : NumberedMember) → get_or ns i z ≡ n) × (row_by r ks table n ≡ get_or (rows_by r ks table ns) i d)))
-row_there r ks table [] i d l = absurd (omega (arith, l))
-row_there r ks table (n ∷ ns) zero d l = (n, (omega arith, (λ z. refl, refl)))
-row_there r ks table (n ∷ ns) (suc i) d l = (let g = row_there r ks table ns i d (omega (arith, l)) in (g.0, (let k = g.1.0 in omega (arith, k), g.1.1)))
+rows_nodes r ks table ns = map-map (λ (w : Row). w.node) (row_by r ks table) ns
 
 -- where each numbered member has a place at which it was reached, the rows are those of what was numbered
 pub rows_list : (r : ℕ) (ks : List Linked) (table : List ℕ) (ns : List NumberedMember) → ArePlaces (nodes_linked ks) table → All (Contains (nodes_linked ks)) (nodes_numbered ns)
     → IsRowList r (reached_of ks) ns (rows_by r ks table ns)
 rows_list r ks table ns h c = record {
-  each = λ i d l. (let g = row_there r ks table ns i d l in subst (IsRowFrom r (reached_of ks) ns) g.1.1.1 (from g.0 i g.1.0 (g.1.1.0 g.0)));
+  each = All-map (IsRowFrom r (reached_of ks) ns) (row_by r ks table) ns (λ i d l. from (get_or ns i d) i l (get_or_default ns i (get_or ns i d) d l));
   nodes = rows_nodes r ks table ns;
 }
   where
@@ -158,24 +136,26 @@ rows_list r ks table ns h c = record {
 
 -- ---- lists that grow
 
--- a number after all of an ascending list
-pub increasing_push : (xs : List ℕ) (x : ℕ) → IsStrictlyIncreasing xs → AreBelow x xs → IsStrictlyIncreasing (xs ++ x ∷ [])
-increasing_push [] x h b k l = absurd (omega (arith, l))
-increasing_push (y ∷ []) x h b zero l = b.0
-increasing_push (y ∷ []) x h b (suc k) l = absurd (omega (arith, l))
-increasing_push (y ∷ z ∷ ys) x h b zero l = h 0 (omega arith)
-increasing_push (y ∷ z ∷ ys) x h b (suc k) l = rw shift (increasing_push (z ∷ ys) x rest b.1 k (omega (arith, l)))
-  where
-    shift : suc k + 1 ≡ suc (k + 1)
-    shift = omega arith
+shift : (k : ℕ) → suc k + 1 ≡ suc (k + 1)
+shift k = omega arith
 
-    rest : IsStrictlyIncreasing (z ∷ ys)
-    rest j i = (let q : suc j + 1 ≡ suc (j + 1) = omega arith in let g = h (suc j) (omega (arith, i)) in rw q at g)
+-- ascending numbers below b, and behind them ascending ones from b on
+pub increasing_both : (b : ℕ) (xs ys : List ℕ) → IsStrictlyIncreasing xs → IsStrictlyIncreasing ys → AreBelow b xs → AreFrom b ys → IsStrictlyIncreasing (xs ++ ys)
+increasing_both b [] ys h g u f k l = g k l
+increasing_both b (x ∷ []) [] h g u f k l = absurd (omega (arith, l))
+increasing_both b (x ∷ []) (y ∷ ys) h g u f zero l = (let p = u.0 in let q = f.0 in omega (arith, p, q))
+increasing_both b (x ∷ []) (y ∷ ys) h g u f (suc k) l = rw (shift k) (g k (omega (arith, l)))
+increasing_both b (x ∷ z ∷ xs) ys h g u f zero l = h 0 (omega arith)
+increasing_both b (x ∷ z ∷ xs) ys h g u f (suc k) l = rw (shift k) (increasing_both b (z ∷ xs) ys (λ j i. rw shift at (h (suc j) (omega (arith, i)))) g u.1 f k (omega (arith, l)))
+
+-- one number behind them
+pub increasing_push : (xs : List ℕ) (x : ℕ) → IsStrictlyIncreasing xs → AreBelow x xs → IsStrictlyIncreasing (xs ++ x ∷ [])
+increasing_push xs x h b = increasing_both x xs (x ∷ []) h (λ k l. absurd (omega (arith, l))) b (omega arith, tt)
 
 pub below_more : (xs : List ℕ) (j k : ℕ) → j ≤ k → AreBelow j xs → AreBelow k xs
 below_more [] j k l b = tt
 below_more (x ∷ xs) j k l b = (omega (arith, l, b.0), below_more xs j k l b.1)
 
-pub below_push : (xs : List ℕ) (x k : ℕ) → x < k → AreBelow k xs → AreBelow k (xs ++ x ∷ [])
-below_push [] x k l b = (l, tt)
-below_push (y ∷ xs) x k l b = (b.0, below_push xs x k l b.1)
+pub below_both : (k : ℕ) (xs ys : List ℕ) → AreBelow k xs → AreBelow k ys → AreBelow k (xs ++ ys)
+below_both k [] ys a b = b
+below_both k (x ∷ xs) ys a b = (a.0, below_both k xs ys a.1 b)

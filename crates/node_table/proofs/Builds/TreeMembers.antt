@@ -1,11 +1,11 @@
 -- The nodes that are reached from a root are the members of one tree.
-use Rattle.std.proofs.Common.{◌≡◌, ℕ, zero, suc, ◌+◌, ◌≤◌, ◌<◌, ◌⊎◌, inl, inr, Bool, true, false, nat_lt, sym, refl, ap, subst, ◌∙◌, arith, List, [], ◌∷◌, length, map, get_or}
-use Rattle.std.specs.Prelude.{Option, Some, None, IsSome, slice_index_or, slice_index}
+use Rattle.std.proofs.Common.{◌≡◌, ℕ, zero, suc, ◌+◌, ◌≤◌, ◌<◌, ◌⊎◌, inl, inr, true, sym, refl, ap, subst, ◌∙◌, arith, List, [], ◌∷◌, length, map, get_or}
+use Rattle.std.specs.Prelude.{Option, Some, None, slice_index}
 use Rattle.std.specs.Option.{unwrap_or}
-use Rattle.std.specs.List.{All, AllByRecursion, Contains}
-use Rattle.std.proofs.lemmas.List.{get_or-map}
-use Rattle.std.proofs.lemmas.List.Elements.{recursion_from_All}
-use Rattle.std.proofs.lemmas.Bool.Decides.{nat_tests}
+use Rattle.std.specs.List.{All, Contains}
+use Rattle.std.proofs.lemmas.List.{get_or-map, length-map, get_or_default}
+use Rattle.std.proofs.lemmas.List.Elements.{All-contains, Contains-get_or}
+use Rattle.std.proofs.lemmas.Bool.{cases_order}
 use Rattle.graph_edits.specs.Edges.{Network, IsSound, weight_in}
 use Rattle.graph_edits.specs.Walks.{IsWalk, IsLeast}
 use Rattle.graph_edits.specs.Laws.{IsLeast-unique}
@@ -20,6 +20,7 @@ use Rattle.node_table.specs.Columns.{up_by, down_by, member_of, HasMember, Lacks
 use Rattle.schemes.proofs.Basics.Walks.{symmetric}
 use Rattle.schemes.proofs.Basics.Lists.{port_found, Covers, at_most}
 use Rattle.schemes.proofs.Basics.Searches.{index_at}
+use Rattle.schemes.proofs.Basics.Options.{is_there}
 use Rattle.node_table.proofs.Builds.Built.{zero_walk, itself}
 
 -- ---- one of a list
@@ -30,34 +31,33 @@ IsIn x (y ∷ ys) = (x ≡ y) ⊎ IsIn x ys
 
 pub is_in_of : {X : Type 0} (xs : List X) (x : X) → Contains xs x → IsIn x xs
 is_in_of [] x c = absurd (omega (arith, c.1))
-is_in_of {X} (y ∷ ys) x c = at (λ k. is_in_of ys x k) c.0 c.1 c.2
-  where
-    at : (Contains ys x → IsIn x ys) → (k : ℕ) → k < length (y ∷ ys) → slice_index_or (y ∷ ys) k x ≡ x → IsIn x (y ∷ ys)
-    at ih zero l e = inl (sym e)
-    at ih (suc k) l e = inr (ih (k, omega (arith, l), e))
+is_in_of (y ∷ ys) x (zero, l, e) = inl (sym e)
+is_in_of (y ∷ ys) x (suc k, l, e) = inr (is_in_of ys x (k, omega (arith, l), e))
 
 pub contains_of : {X : Type 0} (xs : List X) (x : X) → IsIn x xs → Contains xs x
 contains_of [] x i = absurd i
 contains_of (y ∷ ys) x (inl e) = (0, omega arith, sym e)
 contains_of (y ∷ ys) x (inr i) = (let c = contains_of ys x i in (suc c.0, omega (arith, c.1), c.2))
 
-in_by_recursion : {X : Type 0} (P : X → Type 0) (xs : List X) → AllByRecursion P xs → (x : X) → IsIn x xs → P x
-in_by_recursion P [] a x i = absurd i
-in_by_recursion P (y ∷ ys) a x (inl e) = subst P (sym e) a.0
-in_by_recursion P (y ∷ ys) a x (inr i) = in_by_recursion P ys a.1 x i
-
 pub all_in : {X : Type 0} (P : X → Type 0) (xs : List X) → All P xs → (x : X) → IsIn x xs → P x
-all_in P xs a x i = in_by_recursion P xs (recursion_from_All P xs a) x i
+all_in P xs a x i = All-contains P xs x a (contains_of xs x i)
+
+-- an item of a list has its value in the list of values, and each of these is that of an item
+pub in_map : {X Y : Type 0} (f : X → Y) (xs : List X) (x : X) → IsIn x xs → IsIn (f x) (map f xs)
+in_map f [] x i = absurd i
+in_map f (y ∷ ys) x (inl e) = inl (ap f e)
+in_map f (y ∷ ys) x (inr i) = inr (in_map f ys x i)
+
+pub map_in : {X Y : Type 0} (f : X → Y) (xs : List X) (y : Y) → IsIn y (map f xs) → (x : X) × (IsIn x xs × (y ≡ f x))
+map_in f [] y i = absurd i
+map_in f (x ∷ xs) y (inl e) = (x, (inl refl, e))
+map_in f (x ∷ xs) y (inr i) = (let k = map_in f xs y i in (k.0, (inr k.1.0, k.1.1)))
 
 pub in_at : {X : Type 0} (xs : List X) (i : ℕ) (d : X) → i < length xs → IsIn (get_or xs i d) xs
-in_at [] i d l = absurd (omega arith)
-in_at (x ∷ xs) zero d l = inl refl
-in_at (x ∷ xs) (suc i) d l = inr (in_at xs i d (omega (arith, l)))
+in_at xs i d l = is_in_of xs (get_or xs i d) (Contains-get_or xs i d l)
 
 pub at_in : {X : Type 0} (xs : List X) (x d : X) → IsIn x xs → (i : ℕ) × ((i < length xs) × (get_or xs i d ≡ x))
-at_in [] x d i = absurd i
-at_in (y ∷ ys) x d (inl e) = (0, (omega arith, sym e))
-at_in (y ∷ ys) x d (inr i) = (let k = at_in ys x d i in (suc k.0, (omega (arith, k.1.0), k.1.1)))
+at_in xs x d i = (let c = contains_of xs x i in (c.0, (c.1, get_or_default xs c.0 d x c.1 ∙ c.2)))
 
 -- ---- the order of what is reached
 
@@ -119,14 +119,7 @@ laid_members m f (k ∷ ks) a fits kids = (fits k (inl refl), ((λ x e g p. head
 
 walk_inside : (m : Network) → IsSound m → (u : ℕ) (xs : List ℕ) (v : ℕ) → u < m.nodes → IsWalk m.edges u xs v → v < m.nodes
 walk_inside m s u [] v i w = subst (λ z. z < m.nodes) w i
-walk_inside m s u (x ∷ xs) v i w = walk_inside m s x xs v (edge (weight_in m u x) refl w.0) w.1
-  where
-    edge : (o : Option ℕ) → weight_in m u x ≡ o → IsSome o → x < m.nodes
-    edge None g k = absurd (bad k)
-      where
-        bad : false ≡ true → ⊥
-        bad e = cc
-    edge (Some c) g k = (s.within u x c g).1
+walk_inside m s u (x ∷ xs) v i w = (let c = is_there (weight_in m u x) w.0 in walk_inside m s x xs v (s.within u x c.0 c.1).1 w.1)
 
 module _ (m : Network) (sound : IsSound m) (r : ℕ) (r_in : r < m.nodes) (limit : ℕ → Option ℕ) (ks : List Reached) (h : IsTree m.edges r limit ks) (root_within : is_below 0 (limit r) ≡ true) where
   pub exact_in : (k : Reached) → IsIn k ks → IsLeast m.edges (λ s. s ≡ r) k.node k.distance × (is_below k.distance (limit k.node) ≡ true)
@@ -175,12 +168,11 @@ module _ (m : Network) (sound : IsSound m) (r : ℕ) (r_in : r < m.nodes) (limit
   member_at i d z l = get_or-map (member_of m) ks i z d l
 
   pub one_place : (i j : ℕ) (z : Reached) → i < length ks → j < length ks → (get_or ks i z).node ≡ (get_or ks j z).node → i ≡ j
-  one_place i j z l n e = go (nat_lt i j) (nat_lt j i) refl refl
-    where
-      go : (b c : Bool) → nat_lt i j ≡ b → nat_lt j i ≡ c → i ≡ j
-      go true c p q = absurd (apart i j z (let k : i < j = grind (arith, nat_tests) in k) n e)
-      go false true p q = absurd (apart j i z (let k : j < i = grind (arith, nat_tests) in k) l (sym e))
-      go false false p q = grind (arith, nat_tests)
+  one_place i j z l n e = elim (cases_order i j) [
+    | inl same ↦ same
+    | inr (inl k) ↦ absurd (apart i j z k n e)
+    | inr (inr k) ↦ absurd (apart j i z k l (sym e))
+  ]
 
   -- the first that is reached is the root
   first_root : (z : Reached) → (0 < length ks) × ((get_or ks 0 z).node ≡ r)
@@ -212,23 +204,15 @@ module _ (m : Network) (sound : IsSound m) (r : ℕ) (r_in : r < m.nodes) (limit
       key : (i : ℕ) → i < length ks → slice_index ns i ≡ (get_or ks i z).node
       key i l = get_or-map (λ (k : Reached). k.node) ks i z 0 l
 
-      as_many : (xs : List Reached) → length (map (λ (k : Reached). k.node) xs) ≡ length xs
-      as_many [] = refl
-      as_many (x ∷ xs) = omega (arith, as_many xs)
-
       covers : Covers (λ x. unwrap_or (index_of x (map (λ (k : Reached). k.node) ks)) 0) m.nodes (length ks)
       covers i l =
           let there = in_at ks i z l in
-          let found = index_at ns (get_or ks i z).node i (let n = as_many ks in omega (arith, n, l)) (key i l)
+          let found = index_at ns (get_or ks i z).node i (let n = length-map ks (λ (k : Reached). k.node) in omega (arith, n, l)) (key i l)
           (λ j lt e. apart j i z lt l (sym (key j (omega (arith, lt, l))) ∙ e)) in
           ((get_or ks i z).node, (reached_inside (get_or ks i z) there, ap (λ o. unwrap_or o 0) found))
 
   members_length : length (map (member_of m) ks) ≡ length ks
-  members_length = go ks
-    where
-      go : (xs : List Reached) → length (map (member_of m) xs) ≡ length xs
-      go [] = refl
-      go (x ∷ xs) = omega (arith, go xs)
+  members_length = length-map ks (member_of m)
 
   not_root : (k : ℕ) (z : Reached) → 0 < k → k < length ks → (get_or ks k z).node ≡ r → ⊥
   not_root k z l n e = apart 0 k z l n ((first_root z).1 ∙ sym e)
@@ -263,18 +247,17 @@ module _ (m : Network) (sound : IsSound m) (r : ℕ) (r_in : r < m.nodes) (limit
       let at = at_in ks f.0 z f.1.0 in (
         at.0,
         (
-          sooner at.0 at.1.0 (let e = ap (λ (y : Reached). y.distance) at.1.1 in omega (arith, e, f.1.1.1)) (nat_lt at.0 k) refl,
+          sooner at.0 at.1.0 (let e = ap (λ (y : Reached). y.distance) at.1.1 in omega (arith, e, f.1.1.1)),
           λ d. p.1 ∙ ap (λ y. Some y) (sym (ap (λ (y : Member). y.node) (member_at at.0 d z at.1.0) ∙ ap (λ (y : Reached). y.node) at.1.1 ∙ f.1.1.0)),
         ),
       )
     where
-      sooner : (j : ℕ) → j < length ks → (get_or ks j z).distance < (get_or ks k z).distance → (b : Bool) → nat_lt j k ≡ b → j < k
-      sooner j lj lt true e = grind (arith, nat_tests)
-      sooner j lj lt false e = absurd (later (nat_lt k j) refl)
-        where
-          later : (c : Bool) → nat_lt k j ≡ c → ⊥
-          later true q = not_after (get_or ks k z).distance (get_or ks k z).node (get_or ks j z).distance (get_or ks j z).node (precedes_at ks h.ascending k j z (let b : k < j = grind (arith, nat_tests) in b) lj) lt
-          later false q = (let same : j ≡ k = grind (arith, nat_tests) in let d = ap (λ i. (get_or ks i z).distance) same in omega (arith, d, lt))
+      sooner : (j : ℕ) → j < length ks → (get_or ks j z).distance < (get_or ks k z).distance → j < k
+      sooner j lj lt = elim (cases_order j k) [
+        | inl same ↦ (let d = ap (λ i. (get_or ks i z).distance) same in omega (arith, d, lt))
+        | inr (inl b) ↦ b
+        | inr (inr b) ↦ absurd (not_after (get_or ks k z).distance (get_or ks k z).node (get_or ks j z).distance (get_or ks j z).node (precedes_at ks h.ascending k j z b lj) lt)
+      ]
 
   pub reached_members : (z : Reached) → AreMembers (map (member_of m) ks)
   reached_members z = record {
@@ -296,10 +279,3 @@ module _ (m : Network) (sound : IsSound m) (r : ℕ) (r_in : r < m.nodes) (limit
       go : (xs : List Reached) → 0 < length xs → (get_or xs 0 nobody).node ≡ r → BeginsWith r (map (member_of m) xs)
       go [] l e = absurd (omega (arith, l))
       go (x ∷ xs) l e = e
-
-  pub first_member : (d : Member) → (slice_index_or (map (member_of m) ks) 0 d).node ≡ r
-  first_member d = go (map (member_of m) ks) begins_with_root
-    where
-      go : (xs : List Member) → BeginsWith r xs → (slice_index_or xs 0 d).node ≡ r
-      go [] b = absurd b
-      go (x ∷ xs) b = b

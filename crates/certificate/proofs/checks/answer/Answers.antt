@@ -1,8 +1,8 @@
 use Rattle.std.proofs.Common.{arith}
+use Rattle.std.proofs.lemmas.Bool.{iff_false}
 use Rattle.schemes.proofs.Serving.CheckedLaw.{checked_serves}
 use Rattle.certificate.specs.declared.fault.Fault.TheVariants.{Shape}
 use Rattle.certificate.specs.Faults.{rule_of}
-use Rattle.certificate.proofs.Found.{fails}
 use Rattle.certificate.proofs.FirstRules.{frame_from}
 use Rattle.certificate.proofs.Verdict.{all_eight, exact_fault, exact_ok, to_next, to_none}
 use Rattle.certificate.proofs.checks.answer.Goals as goal
@@ -14,7 +14,7 @@ pub returns-then-is_sound-clause-serves : goal.returns-then-is_sound-clause-serv
 returns-then-is_sound-clause-serves c = checked_serves c.args.graph.now c.nodes-sound.ensures.sound c.args.scheme.now (c.requires c.if-is_sound.true)
 
 pub returns-then-not-is_framed-clause-fault : goal.returns-then-not-is_framed-clause-fault
-returns-then-not-is_framed-clause-fault c = (λ h. fails c.is_framed.result c.is_framed.ensures.framed c.if-not-is_framed.true (frame_from c.args.graph.now c.args.scheme.now h), λ j l. to_none c.args.graph.now c.args.scheme.now j (omega (arith, l)))
+returns-then-not-is_framed-clause-fault c = (λ h. iff_false c.is_framed.ensures.framed c.if-not-is_framed.true (frame_from c.args.graph.now c.args.scheme.now h), λ j l. to_none c.args.graph.now c.args.scheme.now j (omega (arith, l)))
 
 pub returns-then-not-is_framed-clause-exact : goal.returns-then-not-is_framed-clause-exact
 returns-then-not-is_framed-clause-exact c = exact_fault c.args.graph.now c.args.scheme.now Shape (returns-then-not-is_framed-clause-fault c)
@@ -27,7 +27,7 @@ loop-i-init c = to_none c.args.graph.now c.args.scheme.now
 
 pub returns-then-not-holds-clause-fault : goal.returns-then-not-holds-clause-fault
 returns-then-not-holds-clause-fault c =
-    (λ h. fails c.holds.result c.holds.ensures c.if-not-holds.true h, λ j l. (let e = c.fault_at-fault.ensures c.loop-i-test.true in c.loop-i.invariant j (omega (arith, l, e))))
+    (λ h. iff_false c.holds.ensures c.if-not-holds.true h, λ j l. (let e = c.fault_at-fault.ensures c.loop-i-test.true in c.loop-i.invariant j (omega (arith, l, e))))
 
 pub returns-then-not-holds-clause-exact : goal.returns-then-not-holds-clause-exact
 returns-then-not-holds-clause-exact c = exact_fault c.args.graph.now c.args.scheme.now c.fault_at-fault.result (returns-then-not-holds-clause-fault c)

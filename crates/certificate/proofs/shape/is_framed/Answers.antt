@@ -1,16 +1,17 @@
 use Rattle.std.proofs.Common.{arith, subst, sym}
+use Rattle.std.proofs.lemmas.Bool.{iff_false}
 use Rattle.certificate.specs.Entries.{HasPlaces, IsFramed}
-use Rattle.certificate.proofs.Found.{fails, refused, accepted}
+use Rattle.certificate.proofs.Found.{refused, accepted}
 use Rattle.certificate.proofs.LookUps.{framed_ascend}
 use Rattle.certificate.proofs.shape.is_framed.Goals as goal
 
 pub returns-then-not-has_places-clause-framed : goal.returns-then-not-has_places-clause-framed
 unfolding IsFramed
-returns-then-not-has_places-clause-framed c = refused (λ h. fails c.has_places.result c.has_places.ensures c.if-not-has_places.true (subst (λ n. HasPlaces n c.args.scheme.now) (sym c.nodes.ensures.nodes) h.0))
+returns-then-not-has_places-clause-framed c = refused (λ h. iff_false c.has_places.ensures c.if-not-has_places.true (subst (λ n. HasPlaces n c.args.scheme.now) (sym c.nodes.ensures.nodes) h.0))
 
 pub returns-then-not-is_node_framed-clause-framed : goal.returns-then-not-is_node_framed-clause-framed
 unfolding IsFramed
-returns-then-not-is_node_framed-clause-framed c = refused (λ h. fails c.is_node_framed.result c.is_node_framed.ensures c.if-not-is_node_framed.true (h.1 c.loop-x.x (omega (arith, c.loop-x-test.true, c.nodes-x-end.ensures.nodes))))
+returns-then-not-is_node_framed-clause-framed c = refused (λ h. iff_false c.is_node_framed.ensures c.if-not-is_node_framed.true (h.1 c.loop-x.x (omega (arith, c.loop-x-test.true, c.nodes-x-end.ensures.nodes))))
 
 pub returns-clause-framed : goal.returns-clause-framed
 unfolding IsFramed

@@ -1,11 +1,11 @@
 use Rattle.std.proofs.Common.{◌++◌, ◌∙◌, ap, length-set}
 use Rattle.schemes.specs.Tables.{items_at}
-use Rattle.node_table.proofs.Builds.BuildSteps.{on_ok}
+use Rattle.std.proofs.lemmas.Result.{on_ok_weaker}
 use Rattle.schemes.proofs.Basics.Places.{items_read, items_set, items_other}
 use Rattle.node_table.proofs.partial.append_at.Goals as goal
 
 pub returns : goal.returns
-returns c = on_ok _ _ c.append.result (λ joined. record {
+returns c = on_ok_weaker c.append.result (λ joined. record {
   length_is = length-set c.args.lists.now.items c.args.at c.append.new.list;
   length_left = length-set c.args.next.now.items c.args.at c.append.new.more;
   joined =

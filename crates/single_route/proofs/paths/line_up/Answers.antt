@@ -1,17 +1,15 @@
-use Rattle.std.proofs.Common.{◌≡◌, ◌↔◌, sym, subst, Bool, true, false, IsTrue, rules, Some}
+use Rattle.std.proofs.Common.{◌≡◌, sym, subst, rules, Some}
+use Rattle.std.proofs.lemmas.Bool.{iff_false}
 use Rattle.distances.specs.Workspace.{reached_of}
 use Rattle.single_route.proofs.ListedTrees.{IsClimbing, climbing_past, climbing_up, reached_push}
 use Rattle.single_route.proofs.paths.line_up.Goals as goal
-
-isnt : (b : Bool) (P : Type 0) → (IsTrue b ↔ P) → b ≡ false → P → ⊥
-isnt b P says is p = let t : b ≡ true = says.1 p in cc
 
 pub loop-member-preserved-then-not-is_node : goal.loop-member-preserved-then-not-is_node
 loop-member-preserved-then-not-is_node c =
     let tree = reached_of c.args.members.now in
     let split = reached_push c.loop-member.left.now c.in-Some.before.now c.in-Some.member.now c.in-Some.ensures.cases.0 in
     climbing_past tree (reached_of c.loop-member.left.now) (reached_of c.in-Some.before.now) c.args.node c.loop-member.line.items c.loop-member.above c.in-Some.member.now.reached split
-    (isnt c.is_node.result (c.loop-member.above ≡ Some c.in-Some.member.now.reached.node) c.is_node.ensures (search rules)) c.loop-member.invariant
+    (iff_false c.is_node.ensures (search rules)) c.loop-member.invariant
 
 pub loop-member-preserved : goal.loop-member-preserved
 loop-member-preserved c =

@@ -25,16 +25,10 @@ path_between-requires-clause-one_root c =
     one_root_listed m c.nodes-sound.ensures.sound c.args.landmarks.now t.root (reached_of c.members.result.now) t.tree_is
 
 pub path_between-requires-clause-from : goal.path_between-requires-clause-from
-path_between-requires-clause-from c =
-    let m = c.args.graph.now in
-    let t = tree_here m.edges c.args.landmarks.now c.args.from c.args.to _ c.members.result.now c.in_ok-find_tree.field-0 c.in_ok-find_tree.ensures.tree (search rules) c.members.ensures in
-    t.from
+path_between-requires-clause-from c = (tree_here c.args.graph.now.edges c.args.landmarks.now c.args.from c.args.to _ c.members.result.now c.in_ok-find_tree.field-0 c.in_ok-find_tree.ensures.tree (search rules) c.members.ensures).from
 
 pub path_between-requires-clause-to : goal.path_between-requires-clause-to
-path_between-requires-clause-to c =
-    let m = c.args.graph.now in
-    let t = tree_here m.edges c.args.landmarks.now c.args.from c.args.to _ c.members.result.now c.in_ok-find_tree.field-0 c.in_ok-find_tree.ensures.tree (search rules) c.members.ensures in
-    t.to
+path_between-requires-clause-to c = (tree_here c.args.graph.now.edges c.args.landmarks.now c.args.from c.args.to _ c.members.result.now c.in_ok-find_tree.field-0 c.in_ok-find_tree.ensures.tree (search rules) c.members.ensures).to
 
 pub trail_over-requires : goal.trail_over-requires
 trail_over-requires c =
