@@ -1,15 +1,16 @@
 -- What is found in a value of JSON.
 use Rattle.std.proofs.Common.{inl, inr, arith, ◌≡◌, ◌<◌, ◌≤◌, ◌+◌, ◌^◌, ◌∙◌, ap, sym, subst, refl, ℕ, List, [], ◌∷◌, ◌++◌, Bool, true, false, cond, get_or, length, length-take, map, take, Option, Some, None}
-use Rattle.std.specs.Prelude.{◌⊎◌, ◌↔◌, All, IsTrue, codes, decimal, option_and_then}
-use Rattle.std.proofs.lemmas.List.{get_or-map, length-map, map_push, take_more}
+use Rattle.std.specs.Prelude.{codes, decimal, option_and_then}
+use Rattle.std.proofs.lemmas.List.{length-map}
 use Rattle.serde_json.specs.Data.{Data, Items}
 use Rattle.serde_json.specs.Find.{as_array, as_number, as_str, as_u64, get}
 use Rattle.serde_json.specs.View.{items_of, items_view, view}
-use Rattle.serde_json.specs.declared.value.Value.{Value, Null}
+use Rattle.serde_json.specs.declared.value.Value.{Value}
 use Rattle.edge_rows.specs.Labels.{is_name}
 use Rattle.serde_json.specs.Read.{read}
-use Rattle.edge_lists.specs.Links.{AreIds, IsFirstNoLink, IsFirstNoNode, IsLink, IsNoLink, IsNoNetwork, IsNoNodeLink, LinksSay, SaysLinks, first_of, has_number, if_name, items_at, items_in, links_of, name_at, number_of, text_or, weight_in, word_of}
+use Rattle.edge_lists.specs.Links.{IsLink, IsNoLink, IsNoNetwork, IsNoNodeLink, LinksSay, first_of, if_name, items_at, items_in, links_of, name_at, number_of, text_or, weight_in, word_of}
 use Rattle.edge_rows.specs.Rows.{Said}
+use Rattle.edge_lists.proofs.EdgeLemmas.{front_more}
 use Rattle.edge_rows.specs.declared.refused.Form.{Form}
 use Rattle.edge_rows.specs.declared.refused.Form.TheVariants as forms
 
@@ -73,13 +74,12 @@ links_more before (l ∷ links) [] link one say is = absurd say
 links_more before (l ∷ links) (s ∷ said) link one say is = (say.0, links_more (before + 1) links said link one say.1 (subst (λ (n : ℕ). IsLink n link one) (omega arith) is))
 
 -- the link at a place is one more
-pub links_next : (links : List Value) (i : ℕ) (d : Value) (said : List Said) (one : Said) → i < length links → LinksSay 0 (map view (take i links)) said → IsLink (i + 1) (view (get_or links i d)) one
+pub links_next : (links : List Value) (i : ℕ) (link : Value) (said : List Said) (one : Said) → i < length links → link ≡ get_or links i link → LinksSay 0 (map view (take i links)) said → IsLink (i + 1) (view link) one
     → LinksSay 0 (map view (take (i + 1) links)) (said ++ one ∷ [])
-links_next links i d said one lt say is =
+links_next links i link said one lt at say is =
     let front = map view (take i links) in
     let far : 0 + length front + 1 ≡ i + 1 = omega (arith, lt, length-map (take i links) view, length-take i links) in
-    subst (λ (l : List Data). LinksSay 0 l (said ++ one ∷ [])) (sym (ap (map view) (take_more links i d lt) ∙ map_push view (take i links) (get_or links i d)))
-    (links_more 0 front said (view (get_or links i d)) one say (subst (λ (n : ℕ). IsLink n (view (get_or links i d)) one) (sym far) is))
+    subst (λ (l : List Data). LinksSay 0 l (said ++ one ∷ [])) (sym (front_more view links i link lt at)) (links_more 0 front said (view link) one say (subst (λ (n : ℕ). IsLink n (view link) one) (sym far) is))
 
 -- ---- arrays
 
@@ -105,50 +105,12 @@ links_first d links is = sym (ap (λ o. first_of o (items_at (codes "edges") d))
 pub links_second : (d : Data) (o : Option (List Data)) → None ≡ items_at (codes "links") d → o ≡ items_at (codes "edges") d → o ≡ links_of d
 links_second d o none is = is ∙ sym (ap (λ p. first_of p (items_at (codes "edges") d)) (sym none))
 
--- what holds of each value holds of what it stands for
-pub each_view : (P : Data → Type 0) (vs : List Value) → All (λ v. P (view v)) vs ↔ All P (map view vs)
-each_view P vs = (
-  λ all k d lt.
-      let within : k < length vs = omega (arith, lt, length-map vs view) in
-      subst P (sym (get_or-map view vs k Null d within)) (all k Null within),
-  λ all k v lt.
-      let within : k < length (map view vs) = omega (arith, lt, length-map vs view) in
-      subst P (get_or-map view vs k v (view v) lt) (all k (view v) within),
-)
-
 -- ---- the whole
 
-pub says_links : (text : List ℕ) (d : Data) (vs : List Value) (ls : List Data) (labels : List (List ℕ)) (by_numbers : Bool) (said : List Said) → read text ≡ Some d → Some (map view vs) ≡ items_at (codes "nodes") d
-    → AreIds (map view vs) labels → (IsTrue by_numbers ↔ All (λ v. has_number (view v) ≡ true) vs) → Some ls ≡ links_of d → LinksSay 0 ls said → SaysLinks text labels by_numbers said
-says_links text d vs ls labels by_numbers said reads at ids numbers are rows =
-    let each = each_view (λ node. has_number node ≡ true) vs in
-    record {
-      value = d;
-      reads = reads;
-      nodes = map view vs;
-      are_nodes = sym at;
-      ids = ids;
-      numbers = (λ so. each.0 (numbers.0 so), λ all. numbers.1 (each.1 all));
-      links = ls;
-      are_links = sym are;
-      rows = rows;
-    }
-
-pub no_nodes : (d : Data) (number : ℕ) → None ≡ items_at (codes "nodes") d → IsNoNetwork d number forms.Arrays
-no_nodes d number none = inl (sym none)
-
-pub no_links : (d : Data) (number : ℕ) → None ≡ links_of d → IsNoNetwork d number forms.Arrays
-no_links d number none = inr (sym none)
-
-pub no_node : (d : Data) (nodes : List Data) (number : ℕ) → Some nodes ≡ items_at (codes "nodes") d → IsFirstNoNode nodes number → IsNoNetwork d number forms.Node
-no_node d nodes number at first = (nodes, sym at, first)
-
-pub no_link : (d : Data) (links : List Data) (number : ℕ) (form : Form) → Some links ≡ links_of d → IsFirstNoLink links number × ((form ≡ forms.Link) ⊎ (form ≡ forms.Weight)) → IsNoNetwork d number form
-no_link d links number form are (first, inl is) = subst (IsNoNetwork d number) (sym is) (links, sym are, first)
-no_link d links number form are (first, inr is) = subst (IsNoNetwork d number) (sym is) (links, sym are, first)
-
-pub is_no_json : (text : List ℕ) (number : ℕ) (form : Form) → (read text ≡ None) × (form ≡ forms.Json) → IsNoNodeLink text number form
-is_no_json text number form is = inl is
+pub is_no_json : (text : List ℕ) (number : ℕ) → read text ≡ None → IsNoNodeLink text number forms.Json
+unfolding IsNoNodeLink
+is_no_json text number none = inl (none, refl)
 
 pub is_no_network : (text : List ℕ) (d : Data) (number : ℕ) (form : Form) → read text ≡ Some d → IsNoNetwork d number form → IsNoNodeLink text number form
+unfolding IsNoNodeLink
 is_no_network text d number form is why = inr (d, is, why)

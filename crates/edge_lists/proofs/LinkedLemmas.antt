@@ -1,9 +1,8 @@
 -- Values of JSON, an item more at a time.
-use Rattle.std.proofs.Common.{arith, ◌≡◌, ◌<◌, ◌+◌, ◌∙◌, ap, sym, refl, ℕ, suc, List, [], ◌∷◌, ◌++◌, false, get_or, length, map, take, Option, Some, None, Bor}
+use Rattle.std.proofs.Common.{◌≡◌, ◌∙◌, ap, sym, refl, ℕ, List, [], ◌∷◌, false, map, Option, Some, None, Bor}
 use Rattle.std.specs.Prelude.{◌||◌}
 use Rattle.std.specs.List.{slice_get}
 use Rattle.std.specs.Option.{option_map}
-use Rattle.std.proofs.lemmas.List.{map-append, take_more}
 use Rattle.std.proofs.lemmas.Option.{slice_get-map}
 use Rattle.serde_json.specs.Data.{Data, number, string, unsigned}
 use Rattle.serde_json.specs.View.{items_of, view}
@@ -11,32 +10,18 @@ use Rattle.serde_json.specs.Written.{has_float, items_have_float}
 use Rattle.serde_json.specs.declared.value.Value.{Value}
 use Rattle.edge_lists.specs.declared.edge.Edge.{Edge}
 use Rattle.edge_lists.specs.Linked.{below, label_data, link_data, named_data, network_data, node_data}
-use Rattle.edge_rows.proofs.WordLemmas.{texts_at}
+use Rattle.value_syntax.specs.Reading.{texts_of}
 
 -- the value of a node's name, or of its number where it has none
-pub name_at : (names : List (Bor (List ℕ))) (node : ℕ) (name : Bor (List ℕ)) (v : Value) → slice_get names node ≡ Some name → view v ≡ string name.now → view v ≡ label_data (texts_at names) node
+pub name_at : (names : List (Bor (List ℕ))) (node : ℕ) (name : Bor (List ℕ)) (v : Value) → slice_get names node ≡ Some name → view v ≡ string name.now → view v ≡ label_data (texts_of names) node
 name_at names node name v at is =
-    let there : slice_get (texts_at names) node ≡ Some name.now = slice_get-map (λ (x : Bor (List ℕ)). x.now) names node ∙ ap (option_map (λ (x : Bor (List ℕ)). x.now)) at in
+    let there : slice_get (texts_of names) node ≡ Some name.now = slice_get-map (λ (x : Bor (List ℕ)). x.now) names node ∙ ap (option_map (λ (x : Bor (List ℕ)). x.now)) at in
     is ∙ ap (λ (o : Option (List ℕ)). named_data o node) (sym there)
 
-pub number_at : (names : List (Bor (List ℕ))) (node : ℕ) (v : Value) → slice_get names node ≡ None → view v ≡ number (unsigned node) → view v ≡ label_data (texts_at names) node
+pub number_at : (names : List (Bor (List ℕ))) (node : ℕ) (v : Value) → slice_get names node ≡ None → view v ≡ number (unsigned node) → view v ≡ label_data (texts_of names) node
 number_at names node v at is =
-    let there : slice_get (texts_at names) node ≡ None = slice_get-map (λ (x : Bor (List ℕ)). x.now) names node ∙ ap (option_map (λ (x : Bor (List ℕ)). x.now)) at in
+    let there : slice_get (texts_of names) node ≡ None = slice_get-map (λ (x : Bor (List ℕ)). x.now) names node ∙ ap (option_map (λ (x : Bor (List ℕ)). x.now)) at in
     is ∙ ap (λ (o : Option (List ℕ)). named_data o node) (sym there)
-
--- a value more
-pub value_more : {A : Type 0} (f : A → Data) (xs : List A) (i : ℕ) (d : A) (old new : List Value) (v : Value) → i < length xs → map view old ≡ map f (take i xs) → new ≡ old ++ v ∷ [] → view v ≡ f (get_or xs i d)
-    → map view new ≡ map f (take (i + 1) xs)
-value_more {A = A} f xs i d old new v lt so_far is one =
-    ap (map view) is ∙ map-append view old (v ∷ []) ∙ ap (λ (l : List Data). l ++ view v ∷ []) so_far ∙ ap (λ (x : Data). map f (take i xs) ++ x ∷ []) one
-    ∙ sym (map-append f (take i xs) (get_or xs i d ∷ [])) ∙ ap (map f) (sym (take_more xs i d lt))
-
--- the value of the next number
-pub value_next : (f : ℕ → Data) (n : ℕ) (old new : List Value) (v : Value) → map view old ≡ map f (below n) → new ≡ old ++ v ∷ [] → view v ≡ f n → map view new ≡ map f (below (n + 1))
-value_next f n old new v so_far is one =
-    let next : suc n ≡ n + 1 = omega arith in
-    ap (map view) is ∙ map-append view old (v ∷ []) ∙ ap (λ (l : List Data). l ++ view v ∷ []) so_far ∙ ap (λ (x : Data). map f (below n) ++ x ∷ []) one
-    ∙ sym (map-append f (below n) (n ∷ [])) ∙ ap (λ (k : ℕ). map f (below k)) next
 
 -- ---- no value that is written has a float
 

@@ -11,7 +11,7 @@ use Rattle.std.proofs.lemmas.Slice.Eq.{bytes_eq-Decides}
 use Rattle.indexmap.specs.IndexSet.{insert_key}
 use Rattle.edge_lists.specs.NameLists.{HaveNumbers, IsNumberOf, NoneTwice, has_number, is_among, with_name, with_names}
 use Rattle.edge_rows.proofs.RowLemmas.{both_ways}
-use Rattle.edge_rows.proofs.WordLemmas.{texts_at}
+use Rattle.value_syntax.specs.Reading.{texts_of}
 
 -- ---- places
 
@@ -36,16 +36,16 @@ place_among names name is =
 -- ---- the set
 
 -- the set has just the names
-pub among_keys : (keys : List (Bor (List ℕ))) (name : List ℕ) → list_any (λ key. bytes_eq name key.now) keys ≡ is_among (texts_at keys) name
+pub among_keys : (keys : List (Bor (List ℕ))) (name : List ℕ) → list_any (λ key. bytes_eq name key.now) keys ≡ is_among (texts_of keys) name
 among_keys [] name = refl
 among_keys (key ∷ keys) name = ap (λ (b : Bool). bytes_eq name key.now || b) (among_keys keys name)
 
 -- what stands for a name in it stands at the name's number
-pub number_stored : (keys : List (Bor (List ℕ))) (name : List ℕ) (n : ℕ) (key : Bor (List ℕ)) → slice_get keys n ≡ Some key → bytes_eq name key.now ≡ true → IsNumberOf (texts_at keys) name n
+pub number_stored : (keys : List (Bor (List ℕ))) (name : List ℕ) (n : ℕ) (key : Bor (List ℕ)) → slice_get keys n ≡ Some key → bytes_eq name key.now ≡ true → IsNumberOf (texts_of keys) name n
 number_stored keys name n key at same =
     slice_get-map (λ (x : Bor (List ℕ)). x.now) keys n ∙ ap (option_map (λ (x : Bor (List ℕ)). x.now)) at ∙ ap (λ (t : List ℕ). Some t) (sym ((bytes_eq-Decides name key.now).0 same))
 
-apart_from : (text : List ℕ) (keys : List (Bor (List ℕ))) (name : List ℕ) (k : ℕ) → AllByRecursion (λ key. bytes_eq text key.now ≡ false) keys → Some text ≡ Some name → IsNumberOf (texts_at keys) name k → ⊥
+apart_from : (text : List ℕ) (keys : List (Bor (List ℕ))) (name : List ℕ) (k : ℕ) → AllByRecursion (λ key. bytes_eq text key.now ≡ false) keys → Some text ≡ Some name → IsNumberOf (texts_of keys) name k → ⊥
 apart_from text [] name k none is at = absurd (cc)
 apart_from text (key ∷ keys) name zero none is at =
     let here : Some text ≡ Some key.now = is ∙ sym at in
@@ -53,7 +53,7 @@ apart_from text (key ∷ keys) name zero none is at =
 apart_from text (key ∷ keys) name (suc k) none is at = apart_from text keys name k none.1 is at
 
 -- no name stands twice in a set
-pub once_by_set : (keys : List (Bor (List ℕ))) → IsDistinct (λ x y. bytes_eq x.now y.now) keys → NoneTwice (texts_at keys)
+pub once_by_set : (keys : List (Bor (List ℕ))) → IsDistinct (λ x y. bytes_eq x.now y.now) keys → NoneTwice (texts_of keys)
 unfolding IsDistinct
 once_by_set [] distinct i j name at other = absurd (cc)
 once_by_set (key ∷ keys) distinct zero zero name at other = refl
@@ -73,13 +73,13 @@ room_left most names name new room =
     let left : nat_lt (length names) most ≡ true = sym (ap (λ (b : Bool). b || nat_lt (length names) most) new) ∙ room in
     grind (arith, nat_tests, left)
 
-module _ (old new : List (Bor (List ℕ))) (q : Bor (List ℕ)) (names : List (List ℕ)) (same : texts_at old ≡ names) (is : new ≡ insert_key (λ x y. bytes_eq x.now y.now) old q) where
+module _ (old new : List (Bor (List ℕ))) (q : Bor (List ℕ)) (names : List (List ℕ)) (same : texts_of old ≡ names) (is : new ≡ insert_key (λ x y. bytes_eq x.now y.now) old q) where
   -- a new name goes last
-  pub set_grown : texts_at new ≡ with_name names q.now
-  set_grown = ap texts_at is ∙ by (list_any (λ key. bytes_eq q.now key.now) old) (among_keys old q.now) ∙ ap (λ (l : List (List ℕ)). with_name l q.now) same where
-    by : (b : Bool) → b ≡ is_among (texts_at old) q.now → texts_at (if b then old else old ++ q ∷ []) ≡ with_name (texts_at old) q.now
-    by true among = sym (with_known (texts_at old) q.now (sym among))
-    by false among = map_push (λ (x : Bor (List ℕ)). x.now) old q ∙ sym (with_new (texts_at old) q.now (sym among))
+  pub set_grown : texts_of new ≡ with_name names q.now
+  set_grown = ap texts_of is ∙ by (list_any (λ key. bytes_eq q.now key.now) old) (among_keys old q.now) ∙ ap (λ (l : List (List ℕ)). with_name l q.now) same where
+    by : (b : Bool) → b ≡ is_among (texts_of old) q.now → texts_of (if b then old else old ++ q ∷ []) ≡ with_name (texts_of old) q.now
+    by true among = sym (with_known (texts_of old) q.now (sym among))
+    by false among = map_push (λ (x : Bor (List ℕ)). x.now) old q ∙ sym (with_new (texts_of old) q.now (sym among))
 
   -- and there are still few
   pub few_grown : (most : ℕ) → has_number most names q.now ≡ true → most < 2 ^ 16 → length old < 2 ^ 16 → length new < 2 ^ 16

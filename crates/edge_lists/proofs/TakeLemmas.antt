@@ -14,11 +14,11 @@ use Rattle.edge_lists.specs.Edges.{IsEdgeOf}
 use Rattle.edge_lists.specs.NameLists.{AreBegun, AreNames, AreTaken, EndsAt, HaveNumbers, IsFirstNoName, IsNoName, IsNumberOf, IsOneTooMany, NoneTwice, ends_of, has_number, is_among, with_name, with_names}
 use Rattle.edge_rows.specs.Labels.{is_name}
 use Rattle.edge_rows.specs.Rows.{Said, row_of}
-use Rattle.edge_lists.proofs.EdgeLemmas.{map_around, zip_push}
-use Rattle.edge_rows.proofs.HeaderLemmas.{nowhere}
+use Rattle.edge_lists.proofs.EdgeLemmas.{front_more, map_around, zip_push}
+use Rattle.value_syntax.proofs.Written.{nowhere}
 use Rattle.edge_lists.proofs.NameLemmas.{among_at, get_cases, number_kept, number_kept_all, numbers_both, room_left, with_both, with_new}
 use Rattle.edge_rows.proofs.RowLemmas.{both_ways}
-use Rattle.edge_rows.proofs.WordLemmas.{texts_at}
+use Rattle.value_syntax.specs.Reading.{texts_of}
 
 -- ---- one row
 
@@ -41,10 +41,6 @@ zip_less R S (x ∷ xs) (y ∷ ys) less all = (less x y all.0, zip_less R S xs y
 ends_both : (front behind : List Said) → ends_of (front ++ behind) ≡ ends_of front ++ ends_of behind
 ends_both front behind = flat_map-append (λ (row : Said). row.a ∷ row.b ∷ []) front behind
 
-said_more : (rows : List Row) (i : ℕ) (row : Row) → i < length rows → get_or rows i row ≡ row → map row_of (take (i + 1) rows) ≡ map row_of (take i rows) ++ row_of row ∷ []
-said_more rows i row lt is =
-    ap (map row_of) (take_more rows i row lt) ∙ map_push row_of (take i rows) (get_or rows i row) ∙ ap (λ (r : Row). map row_of (take i rows) ++ row_of r ∷ []) is
-
 said_around : (rows : List Row) (i : ℕ) (row : Row) → i < length rows → get_or rows i row ≡ row → map row_of rows ≡ map row_of (take i rows) ++ row_of row ∷ map row_of (drop (i + 1) rows)
 said_around rows i row lt is = map_around row_of rows i row lt ∙ ap (λ (r : Row). map row_of (take i rows) ++ row_of r ∷ map row_of (drop (i + 1) rows)) is
 
@@ -64,7 +60,7 @@ taken_more most old now new rows i row edges all edge lt at taken room grows one
       second = subst (λ (l : List (List ℕ)). IsNumberOf l s.b e.b) (sym grows) (number_kept_all now last s.b e.b is.second);
       weight = is.weight;
     } in
-    rw (said_more rows i row lt at, pushed)
+    rw (front_more row_of rows i row lt (sym at), pushed)
     (record {
       numbers = subst (λ (l : List (List ℕ)). HaveNumbers most old l) (sym ends) (numbers_both most old (ends_of said) last taken.numbers here);
       names = grows ∙ ap (λ (l : List (List ℕ)). with_names l last) taken.names ∙ sym (with_both old (ends_of said) last) ∙ ap (λ (l : List (List ℕ)). with_names old l) (sym ends);
@@ -137,15 +133,15 @@ names_more most names new name are word fresh room grows =
       list,
     )
 
-pub texts_more : (texts : List (Bor (List ℕ))) (i : ℕ) → i < length texts → texts_at (take (i + 1) texts) ≡ texts_at (take i texts) ++ (get_or texts i nowhere).now ∷ []
-texts_more texts i lt = ap texts_at (take_more texts i nowhere lt) ∙ map_push (λ (x : Bor (List ℕ)). x.now) (take i texts) (get_or texts i nowhere)
+pub texts_more : (texts : List (Bor (List ℕ))) (i : ℕ) → i < length texts → texts_of (take (i + 1) texts) ≡ texts_of (take i texts) ++ (get_or texts i nowhere).now ∷ []
+texts_more texts i lt = ap texts_of (take_more texts i nowhere lt) ∙ map_push (λ (x : Bor (List ℕ)). x.now) (take i texts) (get_or texts i nowhere)
 
 -- a line that is no name
-pub no_name : (most : ℕ) (names : List (List ℕ)) (texts : List (Bor (List ℕ))) (i : ℕ) (refused : NameRefused) → i < length texts → names ≡ texts_at (take i texts) → AreNames most names
-    → refused.number ≡ i + 1 → IsNoName most names (get_or texts i nowhere).now refused.form → IsFirstNoName most (texts_at texts) refused
+pub no_name : (most : ℕ) (names : List (List ℕ)) (texts : List (Bor (List ℕ))) (i : ℕ) (refused : NameRefused) → i < length texts → names ≡ texts_of (take i texts) → AreNames most names
+    → refused.number ≡ i + 1 → IsNoName most names (get_or texts i nowhere).now refused.form → IsFirstNoName most (texts_of texts) refused
 no_name most names texts i refused lt front are number form =
     let text = (get_or texts i nowhere).now in
-    let behind = texts_at (drop (i + 1) texts) in
+    let behind = texts_of (drop (i + 1) texts) in
     let count : length names ≡ i = ap length front ∙ length-map (take i texts) (λ x. x.now) ∙ length-take-le i texts (omega arith) in
     record {
       names = names;

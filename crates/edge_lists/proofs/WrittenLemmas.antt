@@ -1,5 +1,5 @@
 -- Lists that were written are read as what they are.
-use Rattle.std.proofs.Common.{arith, ◌≡◌, ◌≢◌, ◌==◌, ◌≤◌, ◌<◌, ◌+◌, ◌-◌, ◌^◌, ◌∙◌, ◌&&◌, not, inl, inr, sym, ap, subst, refl, ℕ, zero, suc, List, [], ◌∷◌, ◌++◌, Bool, true, false, cond, map, length, take, drop, get_or, Option, Some, None, append_assoc, codes, decimal, Bor}
+use Rattle.std.proofs.Common.{arith, ◌≡◌, ◌≢◌, ◌==◌, ◌≤◌, ◌<◌, ◌+◌, ◌-◌, ◌^◌, ◌∙◌, ◌&&◌, not, inl, inr, sym, ap, subst, refl, ℕ, zero, suc, List, [], ◌∷◌, ◌++◌, Bool, true, false, cond, map, length, drop, get_or, Option, Some, None, append_assoc, codes, decimal, Bor}
 use Rattle.std.specs.Prelude.{All, unwrap_or}
 use Rattle.std.specs.Char.{is_ascii_whitespace}
 use Rattle.std.specs.List.{flat_map, list_any, slice_get, slice_split}
@@ -7,7 +7,7 @@ use Rattle.std.proofs.Math.Seq.{drop-append_seam}
 use Rattle.std.proofs.lemmas.Bool.{ne_eqb}
 use Rattle.std.proofs.lemmas.Bool.Decides.{nat_tests}
 use Rattle.std.proofs.lemmas.Fmt.{decimal_injective, decimal_is_IsNumeral, decimal_nonempty}
-use Rattle.std.proofs.lemmas.List.{append-nil, flat_map_more, map-append, take-append-drop, take_all, take_more}
+use Rattle.std.proofs.lemmas.List.{append-nil, map-append, take-append-drop}
 use Rattle.std.proofs.lemmas.List.Concat.{flat_map-append}
 use Rattle.std.proofs.lemmas.List.Elements.{All-append, All-cons, All-from_get_or, All-from_recursion, All-head, All-map, All-nil, All-push, All-tail, All-weaker}
 use Rattle.std.proofs.lemmas.List.Folds.{flat_map-map, list_any_none}
@@ -83,13 +83,6 @@ listed_names most text names is are plain =
       listed = are;
       none = λ refused first. none_refused most names are refused (subst (λ (l : List (List ℕ)). IsFirstNoName most l refused) lines first);
     }
-
--- what is written behind references, a line each
-pub names_written : (items : List (Bor (List ℕ))) (i : ℕ) (text : List ℕ) (names : List (List ℕ)) → length items ≤ i → text ≡ flat_map (λ x. x.now ++ 10 ∷ []) (take i items) → map (λ x. x.now) items ≡ names
-    → text ≡ names_text names
-names_written items i text names past is same =
-    is ∙ ap (λ (l : List (Bor (List ℕ))). flat_map (λ x. x.now ++ 10 ∷ []) l) (take_all i items past)
-    ∙ sym (flat_map-map (λ (name : List ℕ). name ++ 10 ∷ []) (λ (x : Bor (List ℕ)). x.now) items) ∙ ap names_text same
 
 -- ---- what a text says, it says alone
 
@@ -393,22 +386,6 @@ list_read names nodes edges text is all fit small =
 
 -- ---- as the code has it
 
--- an edge that stands past the end
-abbrev pub no_edge : Edge
-no_edge = record { line = 0; a = 0; b = 0; weight = 0 }
-
 -- names behind references are labels
 pub labels_texts : (names : List (Bor (List ℕ))) → AreLabels names → All IsLabel (map (λ x. x.now) names)
 labels_texts names all = All-map IsLabel (λ (x : Bor (List ℕ)). x.now) names all
-
--- one edge more fits
-pub fit_more : (edges : List Edge) (i : ℕ) → i < length edges → All FitTypes (take i edges) → FitTypes (get_or edges i no_edge) → All FitTypes (take (i + 1) edges)
-fit_more edges i lt all one = subst (λ (l : List Edge). All FitTypes l) (sym (take_more edges i no_edge lt)) (All-push FitTypes (take i edges) (get_or edges i no_edge) all one)
-
--- one line more is written
-pub lines_more : (names : List (List ℕ)) (front : List ℕ) (edges : List Edge) (i : ℕ) (old new : List ℕ) → i < length edges → old ≡ front ++ edges_text names (take i edges) → new ≡ old ++ (edge_line names (get_or edges i no_edge) ++ 10 ∷ [])
-    → new ≡ front ++ edges_text names (take (i + 1) edges)
-lines_more names front edges i old new lt so_far is =
-    let line = λ (e : Edge). edge_line names e ++ 10 ∷ [] in
-    is ∙ ap (λ (t : List ℕ). t ++ line (get_or edges i no_edge)) so_far ∙ flat_map_more line front (take i edges) (get_or edges i no_edge)
-    ∙ ap (λ (l : List Edge). front ++ flat_map line l) (sym (take_more edges i no_edge lt))

@@ -32,13 +32,17 @@ IsNotNumbered first last said = (edge : Edge) → IsNumbered first last said edg
 abbrev pub AreNumbered : ℕ → ℕ → List Said → List Edge → Type 0
 AreNumbered first last said edges = AreEdgesOf (IsNumber first last) said edges
 
+-- the place is that of the first of these that stands for nothing: those before it stand for others
+pub record IsFirstOdd {A B : Type 0} (Are : List A → List B → Type 0) (IsOdd : A → Type 0) (given : List A) (place : ℕ) : Type 0 where
+  pub others : List B
+  pub before : Are (take place given) others
+  pub one : A
+  pub at : slice_get given place ≡ Some one
+  pub odd : IsOdd one
+
 -- the place is that of the first row with an end that is no such number
-pub record IsFirstOther (first last : ℕ) (said : List Said) (place : ℕ) : Type 0 where
-  pub edges : List Edge
-  pub before : AreNumbered first last (take place said) edges
-  pub row : Said
-  pub at : slice_get said place ≡ Some row
-  pub other : IsNotNumbered first last row
+abbrev pub IsFirstOther : ℕ → ℕ → List Said → ℕ → Type 0
+IsFirstOther first last said place = IsFirstOdd (AreNumbered first last) (IsNotNumbered first last) said place
 
 -- both ends have digits alone
 abbrev pub calls_numbers : Said → Bool

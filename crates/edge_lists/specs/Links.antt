@@ -1,18 +1,18 @@
 -- What node-link JSON says: nodes with what they are called, and the links between them.
-use Rattle.std.specs.Prelude.{◌≡◌, ◌==◌, ◌⊎◌, ◌↔◌, ◌<◌, ◌+◌, ◌^◌, ℕ, List, [], ◌∷◌, All, Bool, true, false, IsTrue, Option, Some, None, codes, cond, decimal, is_some, option_and_then, take}
-use Rattle.std.specs.List.{AllZip, slice_get}
+use Rattle.std.specs.Prelude.{◌≡◌, ◌⊎◌, ◌<◌, ◌+◌, ◌^◌, ℕ, List, [], ◌∷◌, Bool, Option, Some, None, codes, cond, decimal, is_some, option_and_then}
+use Rattle.std.specs.List.{AllZip, list_all}
 use Rattle.serde_json.specs.Data.{Data, Items, no_items, item}
 use Rattle.serde_json.specs.Find.{as_array, as_number, as_str, as_u64, get}
 use Rattle.serde_json.specs.Read.{read}
-use Rattle.edge_rows.specs.Labels.{is_name}
+use Rattle.edge_lists.specs.Edges.{IsFirstOdd}
+use Rattle.edge_rows.specs.Labels.{begins, is_name}
 use Rattle.edge_rows.specs.Rows.{Said}
 use Rattle.edge_rows.specs.declared.refused.Form.{Form}
-use Rattle.edge_rows.specs.declared.refused.Form.TheVariants.{Arc, Arrays, Fields, Json, Link, Name, Node, Record, Relation, Weight}
+use Rattle.edge_rows.specs.declared.refused.Form.TheVariants.{Arrays, Json, Link, Node, Weight}
 
 -- the text begins with `{`, as a value of JSON with nodes and links does
 abbrev pub begins_object : List ℕ → Bool
-begins_object [] = false
-begins_object (b ∷ bs) = b == 123
+begins_object text = begins 123 text
 
 -- ---- what stands at a key
 
@@ -88,6 +88,10 @@ LinksSay before (link ∷ links) (one ∷ said) = IsLink (before + 1) link one �
 abbrev pub IsNode : Data → List ℕ → Type 0
 IsNode node label = name_at (codes "id") node ≡ Some label
 
+-- the node isn't called
+abbrev pub IsNoNode : Data → Type 0
+IsNoNode node = name_at (codes "id") node ≡ None
+
 -- each of these nodes is called so, in order
 abbrev pub AreIds : List Data → List (List ℕ) → Type 0
 AreIds nodes labels = AllZip IsNode nodes labels
@@ -105,38 +109,26 @@ pub record SaysLinks (text : List ℕ) (labels : List (List ℕ)) (by_numbers : 
   pub nodes : List Data
   pub are_nodes : items_at (codes "nodes") value ≡ Some nodes
   pub ids : AreIds nodes labels
-  pub numbers : IsTrue by_numbers ↔ All (λ node. has_number node ≡ true) nodes
+  pub numbers : by_numbers ≡ list_all has_number nodes
   pub links : List Data
   pub are_links : links_of value ≡ Some links
   pub rows : LinksSay 0 links said
 
 -- the node of that number, from 1, is the first that isn't called
 abbrev pub IsFirstNoNode : List Data → ℕ → Type 0
-IsFirstNoNode nodes number = (place : ℕ) × (node : Data) × (labels : List (List ℕ))
-    × (number ≡ place + 1) × (slice_get nodes place ≡ Some node) × AreIds (take place nodes) labels × (name_at (codes "id") node ≡ None)
+IsFirstNoNode nodes number = (place : ℕ) × (number ≡ place + 1) × IsFirstOdd AreIds IsNoNode nodes place
 
 -- the link of that number, from 1, is the first that says none
 abbrev pub IsFirstNoLink : List Data → ℕ → Type 0
-IsFirstNoLink links number = (place : ℕ) × (link : Data) × (said : List Said)
-    × (number ≡ place + 1) × (slice_get links place ≡ Some link) × LinksSay 0 (take place links) said × IsNoLink link
+IsFirstNoLink links number = (place : ℕ) × (number ≡ place + 1) × IsFirstOdd (LinksSay 0) IsNoLink links place
 
--- the value has a link that says none, and its number is that of the first
-abbrev pub HasNoLink : Data → ℕ → Type 0
-HasNoLink value number = (links : List Data) × (links_of value ≡ Some links) × IsFirstNoLink links number
-
--- why a value says no nodes and links
-abbrev pub IsNoNetwork : Data → ℕ → Form → Type 0
-IsNoNetwork value number Arrays = (items_at (codes "nodes") value ≡ None) ⊎ (links_of value ≡ None)
-IsNoNetwork value number Node = (nodes : List Data) × (items_at (codes "nodes") value ≡ Some nodes) × IsFirstNoNode nodes number
-IsNoNetwork value number Link = HasNoLink value number
-IsNoNetwork value number Weight = HasNoLink value number
-IsNoNetwork value number Json = ⊥
-IsNoNetwork value number Fields = ⊥
-IsNoNetwork value number Arc = ⊥
-IsNoNetwork value number Relation = ⊥
-IsNoNetwork value number Record = ⊥
-IsNoNetwork value number Name = ⊥
+-- why a value says no nodes and links: it lacks an array of them, or has a node that isn't called, or a link that says none
+unfoldable pub IsNoNetwork : Data → ℕ → Form → Type 0
+IsNoNetwork value number form =
+    ((form ≡ Arrays) × ((items_at (codes "nodes") value ≡ None) ⊎ (links_of value ≡ None)))
+    ⊎ ((form ≡ Node) × (nodes : List Data) × (items_at (codes "nodes") value ≡ Some nodes) × IsFirstNoNode nodes number)
+    ⊎ (((form ≡ Link) ⊎ (form ≡ Weight)) × (links : List Data) × (links_of value ≡ Some links) × IsFirstNoLink links number)
 
 -- the text is no JSON, or a value that says none
-abbrev pub IsNoNodeLink : List ℕ → ℕ → Form → Type 0
+unfoldable pub IsNoNodeLink : List ℕ → ℕ → Form → Type 0
 IsNoNodeLink text number form = ((read text ≡ None) × (form ≡ Json)) ⊎ ((value : Data) × (read text ≡ Some value) × IsNoNetwork value number form)

@@ -1,8 +1,6 @@
 -- Lists as they are written, and what is read of them.
 use Rattle.std.specs.Prelude.{◌≡◌, ◌==◌, ◌<◌, ◌+◌, ◌*◌, ◌^◌, ℕ, List, [], ◌∷◌, ◌++◌, None, Some, false, All, codes, decimal, length, map, unwrap_or}
 use Rattle.std.specs.List.{flat_map, slice_get}
-use denote.Ref.{Bor}
-use Rattle.value_syntax.specs.Reading.{texts_of}
 use Rattle.value_syntax.specs.Scripts.{lines_of}
 use Rattle.edge_lists.specs.declared.edge.Edge.{Edge}
 use Rattle.edge_lists.specs.declared.refused.NameRefused.{NameRefused}
@@ -47,10 +45,6 @@ edge_line names edge = label_of names edge.a ++ 32 ∷ (label_of names edge.b ++
 -- that line, with a line feed behind it
 abbrev pub edge_text : List (List ℕ) → Edge → List ℕ
 edge_text names edge = edge_line names edge ++ 10 ∷ []
-
--- the same, where the names are behind references
-abbrev pub text_of_edge : List (Bor (List ℕ)) → Edge → List ℕ
-text_of_edge names edge = edge_text (texts_of names) edge
 
 -- a line for each edge
 abbrev pub edges_text : List (List ℕ) → List Edge → List ℕ

@@ -7,7 +7,8 @@ ghost use Rattle.edge_rows.specs.Reading.{IfAccepted, IfRefused};
 
 use crate::names::Names;
 use crate::refused::NameRefused;
-use std::alloc::{AllocError, Global};
+use edge_rows::Judged;
+use std::alloc::Global;
 
 /// What stands beside a device whose nodes are called by their numbers: a line that is no name.
 pub const NUMBERS: &str = "# nodes are numbers\n";
@@ -27,11 +28,7 @@ fn says_numbers(text: &str) -> bool
 }
 
 /// How the text beside a device calls its nodes, of which it may name `most`. Or the first line that is no name.
-pub fn read_called<'a>(
-    alloc: Global,
-    text: &'a str,
-    most: u16,
-) -> Result<Result<Called<'a>, NameRefused>, AllocError>
+pub fn read_called<'a>(alloc: Global, text: &'a str, most: u16) -> Judged<Called<'a>, NameRefused>
     ensures called { IfAccepted result (λ called. IsCalled most text.entry.now called) }
     ensures refused { IfRefused result (λ refused. IsFirstNoName most (lines_of text.entry.now) refused) }
 {

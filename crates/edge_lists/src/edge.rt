@@ -6,8 +6,8 @@ ghost use Rattle.edge_lists.specs.Edges.{AreNumbered, IsFirstOther, IsNotNumbere
 ghost use Rattle.edge_rows.specs.Reading.{IfAccepted, IfNoneRead, IfRefused};
 ghost use Rattle.edge_rows.specs.Rows.{row_of};
 
-use edge_rows::{Row, are_digits};
-use std::alloc::{AllocError, Global};
+use edge_rows::{Judged, Row, Tried, are_digits};
+use std::alloc::Global;
 use value_syntax::number;
 
 /// An edge, and the line that says it.
@@ -21,7 +21,7 @@ pub struct Edge {
 }
 
 /// The number up to `last` that a word is, where the first number is written as `first`.
-pub fn node_in(alloc: Global, word: &str, first: u16, last: u16) -> Result<Option<u16>, AllocError>
+pub fn node_in(alloc: Global, word: &str, first: u16, last: u16) -> Tried<Option<u16>>
     ensures found { IfRead result (λ number. IsNumber first last word.now number) }
     ensures none { IfNoneRead result ((number : ℕ) → IsNumber first last word.now number → ⊥) }
 {
@@ -32,7 +32,7 @@ pub fn node_in(alloc: Global, word: &str, first: u16, last: u16) -> Result<Optio
 }
 
 // The edge of a row whose ends are such numbers.
-fn edge_in(alloc: Global, row: &Row, first: u16, last: u16) -> Result<Option<Edge>, AllocError>
+fn edge_in(alloc: Global, row: &Row, first: u16, last: u16) -> Tried<Option<Edge>>
     ensures found { IfRead result (λ edge. IsNumbered first last (row_of row.now) edge) }
     ensures none { IfNoneRead result (IsNotNumbered first last (row_of row.now)) }
 {
@@ -52,12 +52,7 @@ fn edge_in(alloc: Global, row: &Row, first: u16, last: u16) -> Result<Option<Edg
 
 /// The edges of rows whose ends are all plain numbers up to `last`, where the first number is written as `first`. Or the
 /// place of the first row with another end.
-pub fn by_numbers(
-    alloc: Global,
-    rows: &[Row],
-    first: u16,
-    last: u16,
-) -> Result<Result<Vec<Edge>, usize>, AllocError>
+pub fn by_numbers(alloc: Global, rows: &[Row], first: u16, last: u16) -> Judged<Vec<Edge>, usize>
     ensures found { IfAccepted result (λ edges. AreNumbered first last (map row_of rows.now) edges.items) }
     ensures refused { IfRefused result (λ place. IsFirstOther first last (map row_of rows.now) place) }
 {

@@ -7,12 +7,13 @@ ghost use Rattle.value_syntax.specs.Reading.{texts_of};
 ghost use Rattle.edge_lists.specs.Linked.{below, label_data, link_data, network_data, network_text, node_data};
 
 use crate::edge::Edge;
+use edge_rows::Tried;
 use serde_json::{Value, json};
-use std::alloc::{AllocError, Global};
+use std::alloc::Global;
 
 // What a node is called: its name, or its number where it has none.
 #[tactic(auto, using(crate::proofs::LinkedLemmas::name_at, crate::proofs::LinkedLemmas::number_at))]
-fn label_value(alloc: Global, names: &[&str], node: u16) -> Result<Value, AllocError>
+fn label_value(alloc: Global, names: &[&str], node: u16) -> Tried<Value>
     ensures { IfOk result (λ label. view label ≡ label_data (texts_of names.now) node) }
 {
     if let Some(name) = names.get(node as usize) {
@@ -22,7 +23,7 @@ fn label_value(alloc: Global, names: &[&str], node: u16) -> Result<Value, AllocE
     Ok(Value::from(node as u64))
 }
 
-fn link_value(alloc: Global, names: &[&str], edge: Edge) -> Result<Value, AllocError>
+fn link_value(alloc: Global, names: &[&str], edge: Edge) -> Tried<Value>
     ensures { IfOk result (λ link. view link ≡ link_data (texts_of names.now) edge) }
 {
     let source = label_value(alloc, names, edge.a)?;
@@ -31,14 +32,14 @@ fn link_value(alloc: Global, names: &[&str], edge: Edge) -> Result<Value, AllocE
     json!(in alloc; {"source": source, "target": target, "weight": weight})
 }
 
-fn node_value(alloc: Global, names: &[&str], node: u16) -> Result<Value, AllocError>
+fn node_value(alloc: Global, names: &[&str], node: u16) -> Tried<Value>
     ensures { IfOk result (λ value. view value ≡ node_data (texts_of names.now) node) }
 {
     let label = label_value(alloc, names, node)?;
     json!(in alloc; {"id": label})
 }
 
-fn links_value(alloc: Global, names: &[&str], edges: &[Edge]) -> Result<Value, AllocError>
+fn links_value(alloc: Global, names: &[&str], edges: &[Edge]) -> Tried<Value>
     ensures { IfOk result (λ links. view links ≡ array (items_of (map (link_data (texts_of names.now)) edges.now))) }
 {
     let mut links = Vec::new(alloc);
@@ -49,7 +50,7 @@ fn links_value(alloc: Global, names: &[&str], edges: &[Edge]) -> Result<Value, A
     Ok(Value::Array(links))
 }
 
-fn nodes_value(alloc: Global, names: &[&str], nodes: u16) -> Result<Value, AllocError>
+fn nodes_value(alloc: Global, names: &[&str], nodes: u16) -> Tried<Value>
     ensures { IfOk result (λ all. view all ≡ array (items_of (map (node_data (texts_of names.now)) (below nodes)))) }
 {
     let mut all = Vec::new(alloc);
@@ -60,12 +61,7 @@ fn nodes_value(alloc: Global, names: &[&str], nodes: u16) -> Result<Value, Alloc
     Ok(Value::Array(all))
 }
 
-fn network_value(
-    alloc: Global,
-    nodes: u16,
-    edges: &[Edge],
-    names: &[&str],
-) -> Result<Value, AllocError>
+fn network_value(alloc: Global, nodes: u16, edges: &[Edge], names: &[&str]) -> Tried<Value>
     ensures { IfOk result (λ network. view network ≡ network_data nodes edges.now (texts_of names.now)) }
 {
     let links = links_value(alloc, names, edges)?;
@@ -76,12 +72,7 @@ fn network_value(
 /// The edges between so many nodes as networkx has node-link JSON, in one line. Nodes are called by these names, and by their
 /// numbers where they have none.
 #[tactic(auto, using(crate::proofs::LinkedLemmas::no_float_in_network))]
-pub fn node_link_text(
-    alloc: Global,
-    nodes: u16,
-    edges: &[Edge],
-    names: &[&str],
-) -> Result<String, AllocError>
+pub fn node_link_text(alloc: Global, nodes: u16, edges: &[Edge], names: &[&str]) -> Tried<String>
     ensures { IfOk result (λ text. string_bytes text ≡ network_text nodes edges.now (texts_of names.now)) }
 {
     let network = network_value(alloc, nodes, edges, names)?;

@@ -1,5 +1,6 @@
 // Node-link JSON, as networkx writes it.
-ghost use Rattle.std.specs.Prelude.{◌≡◌, ◌⊎◌, ◌↔◌, ◌<◌, ◌^◌, ℕ, All, IfNone, IfSome, IsTrue, None, Some, codes, map, true};
+ghost use Rattle.std.specs.Prelude.{◌≡◌, ◌⊎◌, ◌<◌, ◌^◌, ℕ, IfNone, IfSome, None, Some, codes, map};
+ghost use Rattle.std.specs.List.{list_all};
 ghost use Rattle.std.specs.Option.{option_map};
 ghost use Rattle.std.specs.String.{string_bytes};
 ghost use Rattle.serde_json.specs.Find.{get};
@@ -10,7 +11,7 @@ ghost use Rattle.edge_lists.specs.Links.{AreIds, IsFirstNoLink, IsFirstNoNode, I
 ghost use Rattle.edge_rows.specs.Reading.{IfAccepted, IfNoneRead, IfRefused};
 ghost use Rattle.edge_rows.specs.Rows.{row_of};
 
-use edge_rows::{Form, LineRefused, Row, is_name};
+use edge_rows::{Form, Judged, LineRefused, Row, Tried, begins, is_name};
 use serde_json::Value;
 use std::alloc::{AllocError, Global};
 
@@ -18,10 +19,7 @@ use std::alloc::{AllocError, Global};
 pub fn begins_object(text: &str) -> bool
     ensures { result ≡ begins_object text.now }
 {
-    match text.as_bytes() {
-        [first, ..] => *first == b'{',
-        [] => false,
-    }
+    begins(b'{', text.as_bytes())
 }
 
 /// What node-link JSON says.
@@ -37,7 +35,7 @@ pub struct Links {
 
 // What a node is called by a value.
 #[tactic(auto, using(crate::proofs::LinkLemmas::word_is_text, crate::proofs::LinkLemmas::word_is_number, crate::proofs::LinkLemmas::word_is_none))]
-fn word_of(alloc: Global, value: &Value) -> Result<Option<String>, AllocError>
+fn word_of(alloc: Global, value: &Value) -> Tried<Option<String>>
     ensures word { IfRead result (λ word. word_of (view value.now) ≡ Some (string_bytes word)) }
     ensures none { IfNoneRead result (word_of (view value.now) ≡ None) }
 {
@@ -52,7 +50,7 @@ fn word_of(alloc: Global, value: &Value) -> Result<Option<String>, AllocError>
 
 // What a node is called at a key, where that is a name.
 #[tactic(auto, using(crate::proofs::LinkLemmas::name_there, crate::proofs::LinkLemmas::name_absent, crate::proofs::LinkLemmas::word_absent, crate::proofs::LinkLemmas::no_name))]
-fn name_at(alloc: Global, value: &Value, key: &str) -> Result<Option<String>, AllocError>
+fn name_at(alloc: Global, value: &Value, key: &str) -> Tried<Option<String>>
     ensures word { IfRead result (λ word. name_at key.now (view value.now) ≡ Some (string_bytes word)) }
     ensures none { IfNoneRead result (name_at key.now (view value.now) ≡ None) }
 {
@@ -85,7 +83,7 @@ fn weight_of(link: &Value) -> Option<u32>
 
 // The row of the link of a number, or what it should have been.
 #[tactic(auto, using(crate::proofs::LinkLemmas::no_source, crate::proofs::LinkLemmas::no_target, crate::proofs::LinkLemmas::unweighted))]
-fn row_in(alloc: Global, number: usize, link: &Value) -> Result<Result<Row, Form>, AllocError>
+fn row_in(alloc: Global, number: usize, link: &Value) -> Judged<Row, Form>
     ensures row { IfAccepted result (λ row. IsLink number (view link.now) (row_of row)) }
     ensures none { IfRefused result (λ form. IsNoLink (view link.now) × ((form ≡ Form.Link) ⊎ (form ≡ Form.Weight))) }
 {
@@ -107,7 +105,7 @@ fn row_in(alloc: Global, number: usize, link: &Value) -> Result<Result<Row, Form
 }
 
 // The rows of links, or the first that says none.
-fn rows_of(alloc: Global, links: &[Value]) -> Result<Result<Vec<Row>, LineRefused>, AllocError>
+fn rows_of(alloc: Global, links: &[Value]) -> Judged<Vec<Row>, LineRefused>
     ensures rows { IfAccepted result (λ rows. LinksSay 0 (map view links.now) (map row_of rows.items)) }
     ensures refused { IfRefused result (λ refused. IsFirstNoLink (map view links.now) refused.number
         × ((refused.form ≡ Form.Link) ⊎ (refused.form ≡ Form.Weight))) }
@@ -124,7 +122,7 @@ fn rows_of(alloc: Global, links: &[Value]) -> Result<Result<Vec<Row>, LineRefuse
 }
 
 // What nodes are called, or the number of the first that isn't.
-fn labels_of(alloc: Global, nodes: &[Value]) -> Result<Result<Vec<String>, usize>, AllocError>
+fn labels_of(alloc: Global, nodes: &[Value]) -> Judged<Vec<String>, usize>
     ensures labels { IfAccepted result (λ labels. AreIds (map view nodes.now) (map string_bytes labels.items)) }
     ensures refused { IfRefused result (λ number. IsFirstNoNode (map view nodes.now) number) }
 {
@@ -147,7 +145,7 @@ fn has_number(node: &Value) -> bool
 
 // Whether all are.
 fn have_numbers(nodes: &[Value]) -> bool
-    ensures { IsTrue result ↔ All (λ node. has_number (view node) ≡ true) nodes.now }
+    ensures { result ≡ list_all (λ node. has_number (view node)) nodes.now }
 {
     nodes.iter().all(|node| has_number(node))
 }
@@ -172,30 +170,8 @@ fn links_at<'a>(value: &'a Value) -> Option<&'a [Value]>
     }
 }
 
-// The value of a text, or what it should have been: the line at which it is none.
-fn value_in(alloc: Global, text: &str) -> Result<Result<Value, LineRefused>, AllocError>
-    ensures value { IfAccepted result (λ value. read text.now ≡ Some (view value)) }
-    ensures refused { IfRefused result (λ refused. (read text.now ≡ None) × (refused.form ≡ Form.Json)) }
-{
-    match Value::from_str(alloc, text) {
-        Ok(value) => Ok(Ok(value)),
-        Err(error) => {
-            if error.is_memory() {
-                return Err(AllocError);
-            }
-            let (number, form) = (error.line(), Form::Json);
-            Ok(Err(LineRefused { number, form }))
-        }
-    }
-}
-
 // What a value says of nodes and links, or why it says none.
-#[tactic(auto, using(crate::proofs::LinkLemmas::says_links, crate::proofs::LinkLemmas::no_nodes, crate::proofs::LinkLemmas::no_links, crate::proofs::LinkLemmas::no_node, crate::proofs::LinkLemmas::no_link))]
-fn links_in(
-    alloc: Global,
-    text: &str,
-    value: &Value,
-) -> Result<Result<Links, LineRefused>, AllocError>
+fn links_in(alloc: Global, text: &str, value: &Value) -> Judged<Links, LineRefused>
     requires { read text.now ≡ Some (view value.now) }
     ensures says { IfAccepted result
         (λ links. SaysLinks text.now (map string_bytes links.labels.items) links.by_numbers (map row_of links.rows.items)) }
@@ -229,14 +205,20 @@ fn links_in(
 /// What node-link JSON says: what each node is called, and the links. Or the first node or link that isn't understood, or the line
 /// in which the text is no JSON.
 #[tactic(auto, using(crate::proofs::LinkLemmas::is_no_json, crate::proofs::LinkLemmas::is_no_network))]
-pub fn read_links(alloc: Global, text: &str) -> Result<Result<Links, LineRefused>, AllocError>
+pub fn read_links(alloc: Global, text: &str) -> Judged<Links, LineRefused>
     ensures says { IfAccepted result
         (λ links. SaysLinks text.now (map string_bytes links.labels.items) links.by_numbers (map row_of links.rows.items)) }
     ensures refused { IfRefused result (λ refused. IsNoNodeLink text.now refused.number refused.form) }
 {
-    let value = match value_in(alloc, text)? {
+    let value = match Value::from_str(alloc, text) {
         Ok(value) => value,
-        Err(refused) => return Ok(Err(refused)),
+        Err(error) => {
+            if error.is_memory() {
+                return Err(AllocError);
+            }
+            let (number, form) = (error.line(), Form::Json);
+            return Ok(Err(LineRefused { number, form }));
+        }
     };
     links_in(alloc, text, &value)
 }

@@ -11,9 +11,9 @@ ghost use Rattle.edge_lists.specs.Written.{AreListed, IsOneLine, names_text};
 
 use crate::edge::Edge;
 use crate::refused::{NameForm, NameRefused};
-use edge_rows::{Row, is_name};
+use edge_rows::{Judged, Row, Tried, is_name};
 use indexmap::IndexSet;
-use std::alloc::{AllocError, Global};
+use std::alloc::Global;
 use std::marker::Model;
 use value_syntax::lines_in;
 
@@ -36,7 +36,7 @@ impl<'a> Model for Names<'a> {
 }
 
 // Adds a line.
-fn push_line(text: &mut String, line: &str) -> Result<(), AllocError>
+fn push_line(text: &mut String, line: &str) -> Tried<()>
     ensures { OnOk result (string_bytes text.new ≡ string_bytes text.old ++ (line.now ++ 10 ∷ [])) }
 {
     text.push_str(line)?;
@@ -60,26 +60,15 @@ impl<'a> Names<'a> {
         self.set.contains(name)
     }
 
-    // How many there are.
-    fn len(&self) -> usize
-        ensures { result ≡ length self.now }
-    {
-        self.set.len()
-    }
-
     // Whether there is a number for a name.
     fn has_number(&self, name: &str, most: u16) -> bool
         ensures { result ≡ has_number most self.now name.now }
     {
-        self.has(name) || self.len() < most as usize
+        self.has(name) || self.set.len() < most as usize
     }
 
     /// The names that these lines are, at most `most`. Or the first line that is no name, or is one for the second time.
-    pub fn from_lines(
-        alloc: Global,
-        lines: &[&'a str],
-        most: u16,
-    ) -> Result<Result<Names<'a>, NameRefused>, AllocError>
+    pub fn from_lines(alloc: Global, lines: &[&'a str], most: u16) -> Judged<Names<'a>, NameRefused>
         ensures lines { IfAccepted result (λ names. names ≡ texts_of lines.now) }
         ensures names { IfAccepted result (λ names. AreNames most names) }
         ensures refused { IfRefused result (λ refused. IsFirstNoName most (texts_of lines.now) refused) }
@@ -105,11 +94,7 @@ impl<'a> Names<'a> {
     }
 
     /// The same of the lines of a text.
-    pub fn read(
-        alloc: Global,
-        text: &'a str,
-        most: u16,
-    ) -> Result<Result<Names<'a>, NameRefused>, AllocError>
+    pub fn read(alloc: Global, text: &'a str, most: u16) -> Judged<Names<'a>, NameRefused>
         ensures lines { IfAccepted result (λ names. names ≡ lines_of text.entry.now) }
         ensures names { IfAccepted result (λ names. AreNames most names) }
         ensures refused { IfRefused result (λ refused. IsFirstNoName most (lines_of text.entry.now) refused) }
@@ -120,7 +105,7 @@ impl<'a> Names<'a> {
 
     /// The number of a name, which gets the next one where it is new; `None` where there are `most` names already and
     /// it is none of them.
-    pub fn number_of(&mut self, name: &'a str, most: u16) -> Result<Option<u16>, AllocError>
+    pub fn number_of(&mut self, name: &'a str, most: u16) -> Tried<Option<u16>>
         ensures number { IfRead result (λ number. IsNumberOf self.new name.entry.now number) }
         ensures some { IfOk result (λ found. is_some found ≡ has_number most self.old name.entry.now) }
         ensures names { OnRead result (self.new ≡ with_name self.old name.entry.now) }
@@ -138,7 +123,7 @@ impl<'a> Names<'a> {
     }
 
     // The edge of a row, by the numbers of its names.
-    fn edge_of(&mut self, row: &'a Row, most: u16) -> Result<Option<Edge>, AllocError>
+    fn edge_of(&mut self, row: &'a Row, most: u16) -> Tried<Option<Edge>>
         ensures edge { IfRead result (λ edge. IsEdgeOf (IsNumberOf self.new) (row_of row.entry.now) edge) }
         ensures numbers { OnRead result (HaveNumbers most self.old (row_ends (row_of row.entry.now))) }
         ensures names { OnRead result (self.new ≡ with_names self.old (row_ends (row_of row.entry.now))) }
@@ -166,7 +151,7 @@ impl<'a> Names<'a> {
         alloc: Global,
         rows: &'a [Row],
         most: u16,
-    ) -> Result<Result<Vec<Edge>, NameRefused>, AllocError>
+    ) -> Judged<Vec<Edge>, NameRefused>
         ensures taken { IfAccepted result (λ edges. AreTaken most self.old (map row_of rows.entry.now) edges.items self.new) }
         ensures refused { IfRefused result (λ why. IsOneTooMany most self.old (map row_of rows.entry.now) why self.new) }
         ensures err { OnErr result (AreBegun self.old (map row_of rows.entry.now) self.new) }
@@ -195,7 +180,7 @@ impl<'a> Names<'a> {
     }
 
     /// A line for each name, in the order of their numbers: what [`Names::read`] reads.
-    pub fn written(&self, alloc: Global) -> Result<String, AllocError>
+    pub fn written(&self, alloc: Global) -> Tried<String>
         ensures text { IfOk result (λ text. string_bytes text ≡ names_text self.now) }
         ensures read { IfOk result (λ text. (most : ℕ) → AreNames most self.now → All IsOneLine self.now
             → AreListed most (string_bytes text) self.now) }

@@ -5,8 +5,9 @@ ghost use Rattle.edge_rows.specs.Reading.{IfAccepted, IfNoneRead, IfRefused};
 ghost use Rattle.value_syntax.specs.Reading.{IfRead};
 
 use crate::edge::Edge;
+use edge_rows::{Judged, Tried};
 use indexmap::IndexMap;
-use std::alloc::{AllocError, Global};
+use std::alloc::Global;
 
 /// The lines of two edges between the same nodes with two weights.
 #[derive(Clone, Copy, Debug, PartialEq, Eq, Drop)]
@@ -29,7 +30,7 @@ fn keep_one(
     edges: &[Edge],
     index: usize,
     by_least: bool,
-) -> Result<Option<Clash>, AllocError>
+) -> Tried<Option<Clash>>
     requires within { index < length edges.now }
     requires before { IsKept by_least (take index edges.now) kept.old }
     ensures kept { IfNoneRead result (IsKept by_least (take (index + 1) edges.now) kept.new) }
@@ -60,11 +61,7 @@ fn keep_one(
 /// One edge for each two nodes that edges join, in the order in which the first of each came. Edges between the same nodes
 /// are one edge, where they have one weight or `by_least`: then it has the least. Or the first edge with another weight.
 #[tactic(auto, using(crate::proofs::OnceLemmas::none_kept))]
-pub fn each_once(
-    alloc: Global,
-    edges: &[Edge],
-    by_least: bool,
-) -> Result<Result<Vec<Edge>, Clash>, AllocError>
+pub fn each_once(alloc: Global, edges: &[Edge], by_least: bool) -> Judged<Vec<Edge>, Clash>
     ensures taken { IfAccepted result (λ taken. AreOnce by_least edges.now taken.items) }
     ensures clash { IfRefused result (IsFirstClash by_least edges.now) }
 {

@@ -4,14 +4,14 @@ ghost use Rattle.std.specs.String.{string_bytes};
 ghost use Rattle.value_syntax.specs.Reading.{IfRead, texts_of};
 ghost use Rattle.edge_rows.specs.Labels.{AreLabels};
 ghost use Rattle.edge_rows.specs.Reading.{IfNoneRead};
-ghost use Rattle.edge_lists.specs.Written.{FitTypes, IsList, arc_text, arcs_text, dimacs_text, head_lines, label_of, names_text, remark, text_of_edge};
+ghost use Rattle.edge_lists.specs.Written.{FitTypes, IsList, arc_text, arcs_text, dimacs_text, edge_text, head_lines, label_of, names_text, remark};
 
 use crate::edge::Edge;
-use edge_rows::are_labels;
-use std::alloc::{AllocError, Global};
+use edge_rows::{Tried, are_labels};
+use std::alloc::Global;
 
 /// Adds what a node is called: its name, or its number where it has none.
-pub fn push_label(text: &mut String, names: &[&str], node: u16) -> Result<(), AllocError>
+pub fn push_label(text: &mut String, names: &[&str], node: u16) -> Tried<()>
     ensures { OnOk result (string_bytes text.new ≡ string_bytes text.old ++ label_of (texts_of names.now) node) }
 {
     match names.get(node as usize) {
@@ -20,8 +20,8 @@ pub fn push_label(text: &mut String, names: &[&str], node: u16) -> Result<(), Al
     }
 }
 
-fn push_line(text: &mut String, names: &[&str], edge: &Edge) -> Result<(), AllocError>
-    ensures line { OnOk result (string_bytes text.new ≡ string_bytes text.old ++ text_of_edge names.now edge.now) }
+fn push_line(text: &mut String, names: &[&str], edge: &Edge) -> Tried<()>
+    ensures line { OnOk result (string_bytes text.new ≡ string_bytes text.old ++ edge_text (texts_of names.now) edge.now) }
     ensures fits { FitTypes edge.now }
 {
     let (a, b, weight) = (edge.a, edge.b, edge.weight);
@@ -32,7 +32,7 @@ fn push_line(text: &mut String, names: &[&str], edge: &Edge) -> Result<(), Alloc
 }
 
 // Adds a comment: what a node is called.
-fn push_remark(text: &mut String, names: &[&str], node: u16) -> Result<(), AllocError>
+fn push_remark(text: &mut String, names: &[&str], node: u16) -> Tried<()>
     ensures { OnOk result (string_bytes text.new
         ≡ string_bytes text.old ++ (remark (label_of (texts_of names.now) node) ++ 10 ∷ [])) }
 {
@@ -42,7 +42,7 @@ fn push_remark(text: &mut String, names: &[&str], node: u16) -> Result<(), Alloc
 }
 
 /// The first lines of a list: how many nodes there are, and what they are called, where there are names.
-pub fn list_head(alloc: Global, nodes: u16, names: &[&str]) -> Result<String, AllocError>
+pub fn list_head(alloc: Global, nodes: u16, names: &[&str]) -> Tried<String>
     ensures { IfOk result (λ text. string_bytes text ≡ names_text (head_lines (texts_of names.now) nodes)) }
 {
     let mut text = format!(in alloc; "# nodes={nodes}\n")?;
@@ -57,12 +57,7 @@ pub fn list_head(alloc: Global, nodes: u16, names: &[&str]) -> Result<String, Al
 /// their numbers where they have none. `None` where a name can't stand in such a line.
 ///
 /// [`crate::read_rows`] reads the text as just these edges, and [`crate::read_nodes`] what it says of nodes.
-pub fn edge_list(
-    alloc: Global,
-    nodes: u16,
-    edges: &[Edge],
-    names: &[&str],
-) -> Result<Option<String>, AllocError>
+pub fn edge_list(alloc: Global, nodes: u16, edges: &[Edge], names: &[&str]) -> Tried<Option<String>>
     ensures list { IfRead result (λ text. IsList (texts_of names.now) nodes edges.now (string_bytes text)) }
     ensures none { IfNoneRead result (¬ (AreLabels names.now)) }
 {
@@ -77,7 +72,7 @@ pub fn edge_list(
 }
 
 /// The edges between so many nodes as DIMACS has them: a line `p sp N M`, and for each edge an arc each way.
-pub fn dimacs_text(alloc: Global, nodes: u16, edges: &[Edge]) -> Result<String, AllocError>
+pub fn dimacs_text(alloc: Global, nodes: u16, edges: &[Edge]) -> Tried<String>
     ensures { IfOk result (λ text. string_bytes text ≡ dimacs_text nodes edges.now) }
 {
     let mut text = String::new(alloc);
@@ -90,14 +85,14 @@ pub fn dimacs_text(alloc: Global, nodes: u16, edges: &[Edge]) -> Result<String, 
 }
 
 // The arcs of an edge.
-fn push_arcs(text: &mut String, edge: Edge) -> Result<(), AllocError>
+fn push_arcs(text: &mut String, edge: Edge) -> Tried<()>
     ensures { OnOk result (string_bytes text.new ≡ string_bytes text.old ++ arcs_text edge) }
 {
     push_arc(text, edge.a, edge.b, edge.weight)?;
     push_arc(text, edge.b, edge.a, edge.weight)
 }
 
-fn push_arc(text: &mut String, from: u16, to: u16, weight: u32) -> Result<(), AllocError>
+fn push_arc(text: &mut String, from: u16, to: u16, weight: u32) -> Tried<()>
     ensures { OnOk result (string_bytes text.new ≡ string_bytes text.old ++ arc_text from to weight) }
 {
     let (from, to) = (from as u32 + 1, to as u32 + 1);

@@ -1,9 +1,9 @@
 -- The forms of lists of edges are told apart, a line at a time.
-use Rattle.std.proofs.Common.{arith, ◌≡◌, ◌≢◌, ◌≤◌, ◌<◌, ◌+◌, ◌∙◌, inl, inr, ap, sym, subst, refl, ℕ, suc, List, [], ◌∷◌, Bool, true, false, not, cond, length, drop, get_or, Option, Some, None, Bor, codes}
+use Rattle.std.proofs.Common.{arith, ◌≡◌, ◌≢◌, ◌+◌, ◌∙◌, inl, inr, ap, sym, subst, refl, ℕ, suc, List, [], ◌∷◌, Bool, true, false, not, cond, drop, Option, Some, None, codes}
 use Rattle.std.specs.Prelude.{◌==◌, ◌&&◌, ◌||◌, is_some, unwrap_or}
 use Rattle.std.specs.Str.{str_eq_ignore_ascii_case}
+use Rattle.std.proofs.lemmas.Bool.{or_right}
 use Rattle.std.proofs.lemmas.Bool.Decides.{Decides-eqb}
-use Rattle.std.proofs.lemmas.List.{at_drop_all, at_drop_more}
 use Rattle.value_syntax.specs.Scripts.{lines_of}
 use Rattle.edge_rows.specs.declared.forms.Heading.TheVariants.{ByWords, There, Absent}
 use Rattle.edge_rows.specs.declared.forms.Writing.{Writing}
@@ -12,8 +12,6 @@ use Rattle.edge_rows.specs.Apart.{IsAlone, IsPlain, are_some, form_at, form_by, 
 use Rattle.edge_rows.specs.Labels.{are_digits, begins_comment}
 use Rattle.edge_rows.specs.Records.{comma_fields, has_comma}
 use Rattle.edge_rows.specs.Rows.{IsRowOf, IsWeight, Said, Say, SaysEdges, arc_fields, comma_fields_in, fields_of, is_head, is_heading, is_letter, is_problem, lead, parts_at, related, says_nothing, scale_of, word_fields, words_of}
-use Rattle.edge_rows.proofs.HeaderLemmas.{nowhere}
-use Rattle.edge_rows.proofs.WordLemmas.{texts_at}
 
 -- what a line of a form shows
 abbrev shown : Writing → Option Writing
@@ -99,17 +97,13 @@ heading_shows (a ∷ b ∷ []) is = refl
 heading_shows (a ∷ b ∷ c ∷ []) is = refl
 heading_shows (a ∷ b ∷ c ∷ d ∷ more) is = absurd (cc)
 
-or_true : (t : Bool) → (t || true) ≡ true
-or_true true = refl
-or_true false = refl
-
 problem_shows : (words : List (List ℕ)) → is_problem words ≡ true → form_by words ≡ Some Dimacs
 problem_shows [] is = absurd (cc)
 problem_shows (a ∷ []) is = absurd (cc)
 problem_shows (a ∷ b ∷ []) is = absurd (cc)
 problem_shows (a ∷ b ∷ c ∷ []) is = absurd (cc)
 problem_shows (a ∷ b ∷ c ∷ d ∷ []) is =
-    ap (λ (t : Bool). cond (is_letter 97 a || t) (Some Dimacs) None) is ∙ ap (λ (t : Bool). cond t (Some Dimacs) None) (or_true (is_letter 97 a))
+    ap (λ (t : Bool). cond (is_letter 97 a || t) (Some Dimacs) None) is ∙ ap (λ (t : Bool). cond t (Some Dimacs) None) (or_right (is_letter 97 a) true refl)
 problem_shows (a ∷ b ∷ c ∷ d ∷ e ∷ more) is = absurd (cc)
 
 -- ---- lines
@@ -191,18 +185,3 @@ form_alone text form is = by where
       ap (λ h. Edges h scale) plain.0 ∙ ap (Edges ByWords) plain.1 ∙ ap (λ (o : Option Writing). unwrap_or o (Edges ByWords None)) (sym (shows (Edges heading scale) said plain says))
   by Dimacs said plain says some = ap (λ (o : Option Writing). unwrap_or o (Edges ByWords None)) (sym (shows Dimacs said plain says some))
   by Relations said plain says some = ap (λ (o : Option Writing). unwrap_or o (Edges ByWords None)) (sym (shows Relations said plain says some))
-
--- ---- the loop
-
--- the form that those lines show that are left
-abbrev pub form_left : List (Bor (List ℕ)) → Option Writing
-form_left xs = form_in (texts_at xs)
-
-pub form_passed : (xs : List (Bor (List ℕ))) (i : ℕ) → i < length xs → form_at (get_or xs i nowhere).now ≡ None → form_left (drop i xs) ≡ form_left (drop (i + 1) xs)
-form_passed xs i lt none = at_drop_more form_left xs i nowhere lt ∙ line_passed (get_or xs i nowhere).now (texts_at (drop (i + 1) xs)) none
-
-pub form_found : (xs : List (Bor (List ℕ))) (i : ℕ) (writing : Writing) → i < length xs → form_at (get_or xs i nowhere).now ≡ Some writing → form_left (drop i xs) ≡ Some writing
-form_found xs i writing lt some = at_drop_more form_left xs i nowhere lt ∙ line_shows (get_or xs i nowhere).now (texts_at (drop (i + 1) xs)) writing some
-
-pub form_none : (xs : List (Bor (List ℕ))) (i : ℕ) → length xs ≤ i → form_left (drop i xs) ≡ None
-form_none xs i past = at_drop_all form_left xs i past

@@ -1,7 +1,5 @@
-pub mod WordLemmas
 pub mod RowLemmas
 pub mod ScaleLemmas
 pub mod RecordLemmas
-pub mod HeaderLemmas
 pub mod NodeLemmas
 pub mod ApartLemmas

@@ -9,7 +9,8 @@ use Rattle.csv.specs.declared.parser.Config.{Config}
 use Rattle.csv.specs.declared.parser.State.{State}
 use Rattle.csv.specs.declared.parser.State.TheVariants.{StartRecord}
 use Rattle.csv.specs.declared.reader.Reader.{Reader}
-use Rattle.edge_rows.specs.Records.{GivesNext, StandsAt, before_last, begins_quote, first_of_two, hides_quote, left_of, next, raw_fields}
+use Rattle.edge_rows.specs.Labels.{begins}
+use Rattle.edge_rows.specs.Records.{GivesNext, StandsAt, before_last, first_of_two, hides_quote, left_of, next, raw_fields}
 
 -- ---- one reading
 
@@ -102,6 +103,6 @@ next_left xs ys i j x is same at =
     one_left xs i x is ∙ ap (λ (n : ℕ). x ∷ drop n xs) next ∙ ap (λ (l : List (List ℕ)). x ∷ drop j l) (sym same)
 
 -- whether a field hides a quotation mark, by the fields with blanks and without
-pub hides_any : (raw : List (List ℕ)) → list_any (λ p. begins_quote p.0 && not (begins_quote p.1)) (zip (map trimmed raw) raw) ≡ list_any hides_quote raw
+pub hides_any : (raw : List (List ℕ)) → list_any (λ p. begins 34 p.0 && not (begins 34 p.1)) (zip (map trimmed raw) raw) ≡ list_any hides_quote raw
 hides_any [] = refl
 hides_any (x ∷ xs) = ap (λ (b : Bool). hides_quote x || b) (hides_any xs)

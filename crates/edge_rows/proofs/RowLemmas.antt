@@ -5,7 +5,7 @@ use Rattle.std.proofs.lemmas.List.{drop-map, get_or-map, length-map, length-take
 use Rattle.edge_rows.specs.declared.forms.Writing.{Writing}
 use Rattle.edge_rows.specs.declared.reading.Read.{Read}
 use Rattle.edge_rows.specs.declared.reading.Read.TheVariants.{Nothing, Row as ReadRow, Refused}
-use Rattle.edge_rows.proofs.WordLemmas.{texts_at}
+use Rattle.value_syntax.specs.Reading.{texts_of}
 use Rattle.edge_rows.specs.Rows.{IsEdgeRead, IsFirstRefused, IsNoRow, IsReadAs, IsRowOf, IsWeight, Said, Say, fields_of, lead, row_of, says_nothing, scale_of, words_of}
 
 pub both_ways : (b : Bool) → b ≡ true → b ≡ false → ⊥
@@ -61,15 +61,15 @@ one_text_more xs i d lt =
     take_more (map now xs) i d.now (omega (arith, length-map xs now)) ∙ ap (λ (t : List ℕ). take i (map now xs) ++ t ∷ []) (get_or-map now xs i d d.now lt)
 
 -- the line at a place is one more, that says nothing or a row
-module _ (writing : Writing) (before : ℕ) (xs : List (Bor (List ℕ))) (i : ℕ) (d : Bor (List ℕ)) (lt : i < length xs) (said : List Said) (so_far : Say writing before (take i (texts_at xs)) said) where
-  pub nothing_at : says_nothing writing (words_of (get_or xs i d).now) ≡ true → Say writing before (take (i + 1) (texts_at xs)) said
-  nothing_at none = subst (λ (l : List (List ℕ)). Say writing before l said) (sym (one_text_more xs i d lt)) (say_nothing_more writing before (take i (texts_at xs)) (get_or xs i d).now said so_far none)
+module _ (writing : Writing) (before : ℕ) (xs : List (Bor (List ℕ))) (i : ℕ) (d : Bor (List ℕ)) (lt : i < length xs) (said : List Said) (so_far : Say writing before (take i (texts_of xs)) said) where
+  pub nothing_at : says_nothing writing (words_of (get_or xs i d).now) ≡ true → Say writing before (take (i + 1) (texts_of xs)) said
+  nothing_at none = subst (λ (l : List (List ℕ)). Say writing before l said) (sym (one_text_more xs i d lt)) (say_nothing_more writing before (take i (texts_of xs)) (get_or xs i d).now said so_far none)
 
-  pub row_at : (row : Said) → says_nothing writing (words_of (get_or xs i d).now) ≡ false → IsRowOf (scale_of writing) (before + i + 1) (fields_of writing (get_or xs i d).now) row → Say writing before (take (i + 1) (texts_at xs)) (said ++ row ∷ [])
+  pub row_at : (row : Said) → says_nothing writing (words_of (get_or xs i d).now) ≡ false → IsRowOf (scale_of writing) (before + i + 1) (fields_of writing (get_or xs i d).now) row → Say writing before (take (i + 1) (texts_of xs)) (said ++ row ∷ [])
   row_at row some is =
-      let far : length (take i (texts_at xs)) ≡ i = length-take-le i (texts_at xs) (omega (arith, lt, length-map xs (λ (x : Bor (List ℕ)). x.now))) in
+      let far : length (take i (texts_of xs)) ≡ i = length-take-le i (texts_of xs) (omega (arith, lt, length-map xs (λ (x : Bor (List ℕ)). x.now))) in
       subst (λ (l : List (List ℕ)). Say writing before l (said ++ row ∷ [])) (sym (one_text_more xs i d lt))
-      (say_row_more writing before (before + i + 1) (take i (texts_at xs)) (get_or xs i d).now said row (omega (arith, far)) so_far some is)
+      (say_row_more writing before (before + i + 1) (take i (texts_of xs)) (get_or xs i d).now said row (omega (arith, far)) so_far some is)
 
 -- no edges are said by lines that go on with one that says none
 pub none_goes_on : (writing : Writing) (before : ℕ) (texts : List (List ℕ)) (text : List ℕ) (more : List (List ℕ)) (said : List Said) → says_nothing writing (words_of text) ≡ false → IsNoRow (scale_of writing) (fields_of writing text)
@@ -97,12 +97,12 @@ first_refused writing before texts i text said lt next say some none =
     }
 
 -- what holds of the lines that are left holds of those of the text
-pub carried : (P : ℕ → List (List ℕ) → Type 0) (writing : Writing) (before : ℕ) (all first read : List (Bor (List ℕ))) (lines : List (List ℕ)) → before ≡ lead writing (texts_at first) → first ≡ all → texts_at all ≡ lines → read ≡ all
-    → P before (texts_at (take (length read - before) (drop before read))) → P (lead writing lines) (drop (lead writing lines) lines)
+pub carried : (P : ℕ → List (List ℕ) → Type 0) (writing : Writing) (before : ℕ) (all first read : List (Bor (List ℕ))) (lines : List (List ℕ)) → before ≡ lead writing (texts_of first) → first ≡ all → texts_of all ≡ lines → read ≡ all
+    → P before (texts_of (take (length read - before) (drop before read))) → P (lead writing lines) (drop (lead writing lines) lines)
 carried P writing before all first read lines at same is other holds =
-    let here : before ≡ lead writing lines = at ∙ ap (λ (l : List (Bor (List ℕ))). lead writing (texts_at l)) same ∙ ap (lead writing) is in
+    let here : before ≡ lead writing lines = at ∙ ap (λ (l : List (Bor (List ℕ))). lead writing (texts_of l)) same ∙ ap (lead writing) is in
     let long : length (drop before read) ≤ length read - before = omega (arith, length-drop before read) in
-    let rest : texts_at (take (length read - before) (drop before read)) ≡ drop before lines =
-    ap texts_at (take_all (length read - before) (drop before read) long ∙ ap (λ (l : List (Bor (List ℕ))). drop before l) other)
+    let rest : texts_of (take (length read - before) (drop before read)) ≡ drop before lines =
+    ap texts_of (take_all (length read - before) (drop before read) long ∙ ap (λ (l : List (Bor (List ℕ))). drop before l) other)
     ∙ sym (drop-map (λ (x : Bor (List ℕ)). x.now) before all) ∙ ap (λ (l : List (List ℕ)). drop before l) is in
     subst (λ (n : ℕ). P n (drop n lines)) here (subst (P before) rest holds)

@@ -6,6 +6,7 @@ use Rattle.std.specs.List.{list_all}
 use Rattle.std.specs.Str.{all_ascii_digits}
 use Rattle.std.specs.Str.Parse.{ParsesUnsigned, digits_value}
 use Rattle.std.proofs.Math.Nat.{one-le-pow, pow-le-pow_right}
+use Rattle.std.proofs.lemmas.Bool.{and_parts}
 use Rattle.std.proofs.lemmas.List.{length-append}
 use Rattle.std.proofs.lemmas.Str.Parse.{IsNumeralModel, digits_value_short, numerals_by_value, parse_gives, tells_all_ascii_digits}
 use Rattle.edge_rows.specs.Labels.{are_digits}
@@ -17,15 +18,11 @@ digits_all (d ∷ ds) = ap (λ (b : Bool). is_ascii_digit d && b) (digits_all ds
 own : IsNumeralModel (λ ds. all_ascii_digits ds ≡ true) (digits_value 10)
 own = numerals_by_value (λ ds. all_ascii_digits ds ≡ true) tells_all_ascii_digits
 
-second : (a b : Bool) → (a && b) ≡ true → b ≡ true
-second true b is = is
-second false b is = let bad : false ≡ true = is in absurd (cc)
-
 -- digits alone are parsed
 pub value_parsed : {E : Type 0} (ds : List ℕ) (r : Result ℕ E) → are_digits ds ≡ true → length ds ≤ 18 → ParsesUnsigned 64 10 ds r → r ≡ Ok (digits_value 10 ds)
 value_parsed [] r is short parsed = let bad : false ≡ true = is in absurd (cc)
 value_parsed (d ∷ ds) r is short parsed =
-    let all : all_ascii_digits (d ∷ ds) ≡ true = sym (digits_all (d ∷ ds)) ∙ second (not (length (d ∷ ds) == 0)) (list_all is_ascii_digit (d ∷ ds)) is in
+    let all : all_ascii_digits (d ∷ ds) ≡ true = sym (digits_all (d ∷ ds)) ∙ (and_parts (not (length (d ∷ ds) == 0)) (list_all is_ascii_digit (d ∷ ds)) is).1 in
     let small : digits_value 10 (d ∷ ds) < 10 ^ 18 = digits_value_short own (d ∷ ds) 18 all short in
     parse_gives own 64 (d ∷ ds) r parsed all (omega arith) (omega (arith, small))
 

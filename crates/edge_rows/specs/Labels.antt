@@ -24,10 +24,14 @@ is_name text = not (is_blank_at (slice_get text 0)) && not (is_blank_at (slice_g
 abbrev pub are_digits : List ℕ → Bool
 are_digits word = not (length word == 0) && list_all is_ascii_digit word
 
+-- the text begins with this byte
+abbrev pub begins : ℕ → List ℕ → Bool
+begins c [] = false
+begins c (b ∷ bs) = b == c
+
 -- the word begins with `#`
 abbrev pub begins_comment : List ℕ → Bool
-begins_comment [] = false
-begins_comment (b ∷ bs) = b == 35
+begins_comment word = begins 35 word
 
 -- what separates lines, words and fields: a line feed, a tab, a carriage return, a blank or a comma
 abbrev pub separates : ℕ → Bool

@@ -9,6 +9,7 @@ use Rattle.csv.specs.declared.parser.State.{State}
 use Rattle.csv.specs.declared.parser.State.TheVariants.{StartRecord}
 use Rattle.csv.specs.declared.reader.Reader.{Reader}
 use Rattle.csv.specs.declared.reader.Trim.TheVariants as trim
+use Rattle.edge_rows.specs.Labels.{begins}
 
 -- a comma stands in the line
 abbrev pub has_comma : List ℕ → Bool
@@ -33,14 +34,9 @@ first_of_two (Some first) = before_last first.0 (next first.1 first.2)
 abbrev pub raw_fields : List ℕ → List (List ℕ)
 raw_fields text = first_of_two (next StartRecord (text ++ 10 ∷ 44 ∷ 10 ∷ []))
 
--- the field begins with a quotation mark
-abbrev pub begins_quote : List ℕ → Bool
-begins_quote [] = false
-begins_quote (b ∷ bs) = b == 34
-
 -- blanks stand before the quotation mark of a field
 abbrev pub hides_quote : List ℕ → Bool
-hides_quote field = begins_quote (trimmed field) && not (begins_quote field)
+hides_quote field = begins 34 (trimmed field) && not (begins 34 field)
 
 -- the fields of a line with a comma: those of its record without the blanks around them; none where one hides a quotation mark
 abbrev pub comma_fields : List ℕ → List (List ℕ)

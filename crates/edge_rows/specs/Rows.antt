@@ -75,16 +75,12 @@ fields_of writing text = cond (has_comma text) (comma_fields_in writing text) (w
 
 -- ---- lines that say nothing
 
--- the word begins a line that says nothing: in DIMACS it is `c`, elsewhere it begins with `#`
-abbrev pub begins_silence : Writing → List ℕ → Bool
-begins_silence (Edges heading scale) word = begins_comment word
-begins_silence Dimacs word = is_letter 99 word
-begins_silence Relations word = begins_comment word
-
--- a line of these words says nothing: there is none, or the first begins such a line
+-- a line of these words says nothing: there is none, or the first is `c` in DIMACS, and elsewhere begins with `#`
 abbrev pub says_nothing : Writing → List (List ℕ) → Bool
 says_nothing writing [] = true
-says_nothing writing (word ∷ words) = begins_silence writing word
+says_nothing Dimacs (word ∷ words) = is_letter 99 word
+says_nothing (Edges heading scale) (word ∷ words) = begins_comment word
+says_nothing Relations (word ∷ words) = begins_comment word
 
 -- a number may begin so: with a digit, a sign or a point
 abbrev pub is_numeric : ℕ → Bool

@@ -3,15 +3,16 @@ ghost use Rattle.std.specs.Prelude.{◌≡◌, ◌∷◌, [], IfOk};
 ghost use Rattle.edge_rows.specs.Apart.{IsAlone, form_at, form_by, form_in};
 ghost use Rattle.value_syntax.specs.Reading.{texts_of};
 
+use crate::Tried;
 use crate::forms::{Heading, Writing, is_letter, is_problem, related, relation_parts};
 use crate::name::begins_comment;
 use crate::records::has_comma;
 use crate::words::words_in;
-use std::alloc::{AllocError, Global};
+use std::alloc::Global;
 use value_syntax::lines_in;
 
 // The form that a line of one word shows.
-fn form_of_word(alloc: Global, words: &[&str], word: &str) -> Result<Option<Writing>, AllocError>
+fn form_of_word(alloc: Global, words: &[&str], word: &str) -> Tried<Option<Writing>>
     requires { texts_of words.now ≡ word.now ∷ [] }
     ensures { IfOk result (λ form. form ≡ form_by (texts_of words.now)) }
 {
@@ -26,7 +27,7 @@ fn form_of_word(alloc: Global, words: &[&str], word: &str) -> Result<Option<Writ
 }
 
 // The form that a line shows by its words, where it is no edge list's.
-fn form_by(alloc: Global, words: &[&str]) -> Result<Option<Writing>, AllocError>
+fn form_by(alloc: Global, words: &[&str]) -> Tried<Option<Writing>>
     ensures { IfOk result (λ form. form ≡ form_by (texts_of words.now)) }
 {
     match words {
@@ -43,7 +44,7 @@ fn form_by(alloc: Global, words: &[&str]) -> Result<Option<Writing>, AllocError>
 }
 
 // The same of a line.
-fn form_at(alloc: Global, text: &str) -> Result<Option<Writing>, AllocError>
+fn form_at(alloc: Global, text: &str) -> Tried<Option<Writing>>
     ensures { IfOk result (λ form. form ≡ form_at text.now) }
 {
     if has_comma(text) {
@@ -55,7 +56,7 @@ fn form_at(alloc: Global, text: &str) -> Result<Option<Writing>, AllocError>
 }
 
 // The form that the first of these lines shows that shows one.
-fn form_in(alloc: Global, texts: &[&str]) -> Result<Option<Writing>, AllocError>
+fn form_in(alloc: Global, texts: &[&str]) -> Tried<Option<Writing>>
     ensures { IfOk result (λ form. form ≡ form_in (texts_of texts.now)) }
 {
     for index in 0..texts.len() {
@@ -69,7 +70,8 @@ fn form_in(alloc: Global, texts: &[&str]) -> Result<Option<Writing>, AllocError>
 
 /// The form of the first line that no edge list has, and an edge list where all lines may be one's: a text that says edges in
 /// lines says them in this form alone.
-pub fn form_of(alloc: Global, text: &str) -> Result<Writing, AllocError>
+#[tactic(auto, using(crate::proofs::ApartLemmas::form_alone))]
+pub fn form_of(alloc: Global, text: &str) -> Tried<Writing>
     ensures { IfOk result (IsAlone text.now) }
 {
     let texts = lines_in(alloc, text)?;

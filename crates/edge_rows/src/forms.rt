@@ -2,12 +2,16 @@
 ghost use Rattle.std.specs.Prelude.{◌≡◌, IfOk, codes};
 ghost use Rattle.std.specs.Option.{option_map};
 ghost use Rattle.std.specs.Str.{str_eq_ignore_ascii_case};
+ghost use Rattle.csv.specs.Records.{fields_of as record_fields};
 ghost use Rattle.value_syntax.specs.Reading.{texts_of};
-ghost use Rattle.edge_rows.specs.Rows.{arc_fields, begins_silence, is_letter, is_problem, is_relation, nodes_word, related, relation_parts, says_nothing, scale_of, word_fields};
+ghost use Rattle.edge_rows.specs.Rows.{arc_fields, fields_of, is_letter, is_problem, is_relation, nodes_word, related, relation_parts, says_nothing, scale_of, word_fields};
 
-use crate::name::{are_digits, begins_comment};
-use crate::words::parts_in;
-use std::alloc::{AllocError, Global};
+use crate::Tried;
+use crate::name::{are_digits, begins};
+use crate::records::{has_comma, record_in};
+use crate::words::{parts_in, words_in};
+use csv::StringRecord;
+use std::alloc::Global;
 
 /// Which line is a header: none but the first that says something.
 #[derive(Clone, Copy, Debug, PartialEq, Eq, Drop)]
@@ -59,24 +63,17 @@ pub(crate) fn reads_as(text: &str, word: &str) -> bool
     text.eq_ignore_ascii_case(word)
 }
 
-// Whether a word begins a line that says nothing.
-fn begins_silence(writing: Writing, word: &str) -> bool
-    ensures { result ≡ begins_silence writing word.now }
-{
-    match writing {
-        Writing::Edges(..) => begins_comment(word),
-        Writing::Dimacs => is_letter(b'c', word),
-        Writing::Relations => begins_comment(word),
-    }
-}
-
 /// Whether a line of these words says nothing.
 pub(crate) fn is_nothing(writing: Writing, words: &[&str]) -> bool
     ensures { result ≡ says_nothing writing (texts_of words.now) }
 {
     match words.first() {
-        Some(word) => begins_silence(writing, *word),
         None => true,
+        Some(word) => match writing {
+            Writing::Edges(..) => begins(b'#', word.as_bytes()),
+            Writing::Dimacs => is_letter(b'c', *word),
+            Writing::Relations => begins(b'#', word.as_bytes()),
+        },
     }
 }
 
@@ -124,10 +121,7 @@ fn is_relation(word: &str) -> bool
 }
 
 /// The parts of a line of relations, which is one word; no part where it isn't.
-pub(crate) fn relation_parts<'a>(
-    alloc: Global,
-    words: &[&'a str],
-) -> Result<Vec<&'a str>, AllocError>
+pub(crate) fn relation_parts<'a>(alloc: Global, words: &[&'a str]) -> Tried<Vec<&'a str>>
     ensures { IfOk result (λ parts. texts_of parts.items ≡ relation_parts (texts_of words.now)) }
 {
     match words {
@@ -147,20 +141,31 @@ pub(crate) fn related<'a, 'b>(parts: &'a [&'b str]) -> &'a [&'b str]
     }
 }
 
-/// The fields of a line without commas, by its words.
-pub(crate) fn word_fields<'a>(
-    alloc: Global,
-    writing: Writing,
-    words: &[&'a str],
-) -> Result<Vec<&'a str>, AllocError>
-    ensures { IfOk result (λ fields. texts_of fields.items ≡ word_fields writing (texts_of words.now)) }
+// The fields of a line without commas, by its words.
+fn word_fields(alloc: Global, writing: Writing, words: &[&str]) -> Tried<StringRecord>
+    ensures { IfOk result (λ row. record_fields row ≡ word_fields writing (texts_of words.now)) }
 {
     match writing {
-        Writing::Edges(..) => Vec::from_slice(alloc, words),
-        Writing::Dimacs => Vec::from_slice(alloc, arc_fields(words)),
+        Writing::Edges(..) => StringRecord::from_fields(alloc, words),
+        Writing::Dimacs => StringRecord::from_fields(alloc, arc_fields(words)),
         Writing::Relations => {
             let parts = relation_parts(alloc, words)?;
-            Vec::from_slice(alloc, related(&parts))
+            StringRecord::from_fields(alloc, related(&parts))
         }
+    }
+}
+
+/// The fields of a line.
+pub(crate) fn fields_in(alloc: Global, writing: Writing, text: &str) -> Tried<StringRecord>
+    ensures { IfOk result (λ row. record_fields row ≡ fields_of writing text.now) }
+{
+    if !has_comma(text) {
+        let words = words_in(alloc, text)?;
+        return word_fields(alloc, writing, &words);
+    }
+    match writing {
+        Writing::Edges(..) => record_in(alloc, text),
+        Writing::Dimacs => Ok(StringRecord::new(alloc)),
+        Writing::Relations => Ok(StringRecord::new(alloc)),
     }
 }

@@ -3,17 +3,11 @@ ghost use Rattle.std.specs.Prelude.{◌≡◌, ◌≤◌, IfOk, codes, length};
 ghost use Rattle.value_syntax.specs.Reading.{texts_of};
 ghost use Rattle.edge_rows.specs.Rows.{begins_as_name, heads_ends, is_head, is_heading, is_numeric, lead, says_nothing, words_of};
 
-use crate::forms::{Heading, Writing, is_nothing, is_problem, reads_as};
-use crate::records::{has_comma, record_in, texts_in};
+use crate::Tried;
+use crate::forms::{Heading, Writing, fields_in, is_nothing, is_problem, reads_as};
+use crate::records::{has_comma, texts_in};
 use crate::words::words_in;
-use std::alloc::{AllocError, Global};
-
-// Whether a number may begin so.
-fn may_begin(byte: u8) -> bool
-    ensures { result ≡ is_numeric byte }
-{
-    (byte >= b'0' && byte <= b'9') || byte == b'+' || byte == b'-' || byte == b'.'
-}
+use std::alloc::Global;
 
 // Whether a field begins as no number does.
 fn is_name(field: &str) -> bool
@@ -23,6 +17,13 @@ fn is_name(field: &str) -> bool
         [first, ..] => !may_begin(*first),
         [] => false,
     }
+}
+
+// Whether a number may begin so.
+fn may_begin(byte: u8) -> bool
+    ensures { result ≡ is_numeric byte }
+{
+    (byte >= b'0' && byte <= b'9') || byte == b'+' || byte == b'-' || byte == b'.'
 }
 
 // Whether these are words for the two ends of an edge.
@@ -44,30 +45,27 @@ fn is_heading(commas: bool, fields: &[&str]) -> bool
 }
 
 // Whether a line is a header, where it is the first that says something.
-fn is_head(alloc: Global, writing: Writing, text: &str) -> Result<bool, AllocError>
+fn is_head(alloc: Global, writing: Writing, text: &str) -> Tried<bool>
     ensures { IfOk result (λ is. is ≡ is_head writing text.now) }
 {
     match writing {
-        Writing::Edges(Heading::There, _) => return Ok(true),
-        Writing::Edges(Heading::Absent, _) => return Ok(false),
-        Writing::Relations => return Ok(false),
+        Writing::Edges(Heading::There, _) => Ok(true),
+        Writing::Edges(Heading::Absent, _) => Ok(false),
+        Writing::Relations => Ok(false),
         Writing::Dimacs => {
             let words = words_in(alloc, text)?;
-            return Ok(!has_comma(text) && is_problem(&words));
+            Ok(!has_comma(text) && is_problem(&words))
         }
-        Writing::Edges(Heading::ByWords, _) => {}
+        Writing::Edges(Heading::ByWords, _) => {
+            let record = fields_in(alloc, writing, text)?;
+            let fields = texts_in(alloc, &record)?;
+            Ok(is_heading(has_comma(text), &fields))
+        }
     }
-    if !has_comma(text) {
-        let words = words_in(alloc, text)?;
-        return Ok(is_heading(false, &words));
-    }
-    let record = record_in(alloc, text)?;
-    let fields = texts_in(alloc, &record)?;
-    Ok(is_heading(true, &fields))
 }
 
-// Whether a line says nothing.
-fn is_silent(alloc: Global, writing: Writing, text: &str) -> Result<bool, AllocError>
+/// Whether a line says nothing.
+pub(crate) fn is_silent(alloc: Global, writing: Writing, text: &str) -> Tried<bool>
     ensures { IfOk result (λ is. is ≡ says_nothing writing (words_of text.now)) }
 {
     let words = words_in(alloc, text)?;
@@ -75,11 +73,7 @@ fn is_silent(alloc: Global, writing: Writing, text: &str) -> Result<bool, AllocE
 }
 
 /// How many lines stand in front of the first that may say an edge: lines that say nothing, and behind them a header.
-pub(crate) fn lines_before(
-    alloc: Global,
-    writing: Writing,
-    texts: &[&str],
-) -> Result<usize, AllocError>
+pub(crate) fn lines_before(alloc: Global, writing: Writing, texts: &[&str]) -> Tried<usize>
     ensures lead { IfOk result (λ n. n ≡ lead writing (texts_of texts.now)) }
     ensures within { IfOk result (λ n. n ≤ length texts.now) }
 {

@@ -1,20 +1,9 @@
 //! Rows of edges: what each line of a text says of a network, in one of three forms, read exactly.
 //!
 //! In an edge list a line has an edge, its two ends and its weight: `A B W` with blanks between, or a record `A,B,W` of CSV, which the crate `csv`
-//! reads. Where W is left out it is 1. [`read_rows`] reads a text into [`Row`]s, whose ends are names; what they stand for is decided above, of the
-//! list as a whole.
-//!
-//! | Line | Is |
-//! |---|---|
-//! | `A B W`, `A,B,W` | an edge; between words stand blanks, tabs or carriage returns, and those around a field don't count |
-//! | one without a word, one whose first word begins with `#` | nothing; what `# nodes=N` in the first line says of nodes, [`read_nodes`] reads |
-//! | the first other line, where its ends are `source` and `target`, or `from` and `to`, and a third field begins as no number does | a header |
-//! | the same line with commas, where it has three fields, and the third begins as no number does | a header too |
-//!
-//! Two more forms have lines of words alone ([`Writing`]). In DIMACS `a U V W` is an arc, `c` begins a comment, and the first other line is a
-//! header if it is `p sp N M`. Of relations as CAIDA has them `A|B|R` is an edge of the weight 1, where R is -1, 0, 1 or 2. Lines that say edges say them in
-//! one form alone ([`form_of`]). A weight is a plain number below 2^32, or where weights are multiplied a decimal one of 18 digits; which weights
-//! a network takes is not judged here.
+//! reads. In DIMACS `a U V W` is an arc. Of relations as CAIDA has them `A|B|R` is an edge of the weight 1. Which lines are comments and headers,
+//! `docs/FORMATS-NETWORKS.md` says. [`read_rows`] reads a text into [`Row`]s, whose ends are names; what they stand for is decided above, of the
+//! list as a whole. Lines that say edges say them in one form alone ([`form_of`]).
 //!
 //! What a text says is a definition (`specs/Rows`, of commas `specs/Records`): the rows of its lines. Where a text is read, its rows are those
 //! (`found`); where it is refused, the first line that says no edge is named (`refused`). So a text that is an edge list is read. What lines say
@@ -40,8 +29,15 @@ mod words;
 
 pub use apart::form_of;
 pub use forms::{Heading, Writing};
-pub use name::{are_digits, are_labels, is_name};
+pub use name::{are_digits, are_labels, begins, is_name};
 pub use nodes::{Nodes, read_nodes};
 pub use reading::read_rows;
 pub use refused::{Form, LineRefused};
 pub use row::Row;
+use std::alloc::AllocError;
+
+/// What a call gives, unless memory is refused.
+pub type Tried<T> = Result<T, AllocError>;
+
+/// The same of a text that may be refused.
+pub type Judged<T, E> = Tried<Result<T, E>>;

@@ -3,7 +3,7 @@ ghost use Rattle.std.specs.Prelude.{◌≡◌, ◌↔◌, All, IsTrue, false};
 ghost use Rattle.std.specs.Char.{is_ascii_digit};
 ghost use Rattle.std.specs.List.{list_all};
 ghost use Rattle.std.specs.Option.{option_map};
-ghost use Rattle.edge_rows.specs.Labels.{AreLabels, IsLabel, are_digits, begins_comment, begins_mark, is_blank_at, is_name, separates};
+ghost use Rattle.edge_rows.specs.Labels.{AreLabels, IsLabel, are_digits, begins, begins_comment, begins_mark, is_blank_at, is_name, separates};
 
 // Whether a blank stands there, or nothing.
 fn is_blank_at(byte: Option<&u8>) -> bool
@@ -54,8 +54,15 @@ fn has_digits_alone(word: &str) -> bool
 pub(crate) fn begins_comment(word: &str) -> bool
     ensures { result ≡ begins_comment word.now }
 {
-    match word.as_bytes() {
-        [first, ..] => *first == b'#',
+    begins(b'#', word.as_bytes())
+}
+
+/// Whether a text begins with this byte.
+pub fn begins(byte: u8, text: &[u8]) -> bool
+    ensures { result ≡ begins byte text.now }
+{
+    match text {
+        [first, ..] => *first == byte,
         [] => false,
     }
 }

@@ -3,12 +3,13 @@ ghost use Rattle.std.specs.Prelude.{◌≡◌, IfOk};
 ghost use Rattle.std.specs.Option.{option_map};
 ghost use Rattle.value_syntax.specs.Reading.{IfRead, texts_of};
 ghost use Rattle.value_syntax.specs.Scripts.{lines_of};
-ghost use Rattle.edge_rows.specs.Rows.{count_line, count_word, counted, head_count, names_said, nodes_said, remarks, words_of};
+ghost use Rattle.edge_rows.specs.Rows.{count_line, count_word, counted, head_count, names_said, nodes_said, remarked, remarks, words_of};
 
+use crate::Tried;
 use crate::forms::{Writing, is_letter, nodes_word, reads_as};
 use crate::header::lines_before;
 use crate::words::{parts_in, words_in};
-use std::alloc::{AllocError, Global};
+use std::alloc::Global;
 use value_syntax::lines_in;
 
 /// How many nodes there are, and what they are called.
@@ -23,11 +24,7 @@ pub struct Nodes<'a> {
 }
 
 /// What a text says of its nodes: in the first line of an edge list, `# nodes=N`, or in the problem line of DIMACS.
-pub fn read_nodes<'a>(
-    alloc: Global,
-    text: &'a str,
-    writing: Writing,
-) -> Result<Option<Nodes<'a>>, AllocError>
+pub fn read_nodes<'a>(alloc: Global, text: &'a str, writing: Writing) -> Tried<Option<Nodes<'a>>>
     ensures count { IfOk result (λ nodes. option_map (λ n. n.count.now) nodes ≡ nodes_said writing (lines_of text.entry.now)) }
     ensures line { IfRead result (λ nodes. nodes.line ≡ count_line writing (lines_of text.entry.now)) }
     ensures names { IfRead result (λ nodes. texts_of nodes.names.items ≡ names_said writing (lines_of text.entry.now)) }
@@ -45,7 +42,7 @@ pub fn read_nodes<'a>(
 }
 
 // The number of the line that may say how many there are.
-fn count_line(alloc: Global, writing: Writing, texts: &[&str]) -> Result<usize, AllocError>
+fn count_line(alloc: Global, writing: Writing, texts: &[&str]) -> Tried<usize>
     ensures { IfOk result (λ line. line ≡ count_line writing (texts_of texts.now)) }
 {
     match writing {
@@ -56,11 +53,7 @@ fn count_line(alloc: Global, writing: Writing, texts: &[&str]) -> Result<usize, 
 }
 
 // The word for how many there are, in a line that says it.
-fn count_at<'a>(
-    alloc: Global,
-    writing: Writing,
-    text: &'a str,
-) -> Result<Option<&'a str>, AllocError>
+fn count_at<'a>(alloc: Global, writing: Writing, text: &'a str) -> Tried<Option<&'a str>>
     ensures { IfOk result (λ word. option_map (λ w. w.now) word ≡ count_word writing (words_of text.entry.now)) }
 {
     let words = words_in(alloc, text)?;
@@ -72,7 +65,7 @@ fn count_at<'a>(
 }
 
 // N of the words of a line `# nodes=N`.
-fn head_count<'a>(alloc: Global, words: &[&'a str]) -> Result<Option<&'a str>, AllocError>
+fn head_count<'a>(alloc: Global, words: &[&'a str]) -> Tried<Option<&'a str>>
     ensures { IfOk result (λ count. option_map (λ c. c.now) count ≡ head_count (texts_of words.now)) }
 {
     match words {
@@ -95,11 +88,7 @@ fn counted<'a>(parts: &[&'a str]) -> Option<&'a str>
 }
 
 // What the lines behind the first call nodes.
-fn names_in<'a>(
-    alloc: Global,
-    writing: Writing,
-    texts: &[&'a str],
-) -> Result<Vec<&'a str>, AllocError>
+fn names_in<'a>(alloc: Global, writing: Writing, texts: &[&'a str]) -> Tried<Vec<&'a str>>
     ensures { IfOk result (λ names. texts_of names.items ≡ names_said writing (texts_of texts.now)) }
 {
     match (writing, texts) {
@@ -109,15 +98,22 @@ fn names_in<'a>(
 }
 
 // What stands behind `# ` in the lines that begin so, up to the first that doesn't.
-fn remarks<'a>(alloc: Global, texts: &[&'a str]) -> Result<Vec<&'a str>, AllocError>
+fn remarks<'a>(alloc: Global, texts: &[&'a str]) -> Tried<Vec<&'a str>>
     ensures { IfOk result (λ names. texts_of names.items ≡ remarks (texts_of texts.now)) }
 {
     let mut names = Vec::new(alloc);
     for index in 0..texts.len() {
-        match texts[index].strip_prefix("# ") {
+        match remark_in(texts[index]) {
             Some(name) => names.push(name)?,
             None => return Ok(names),
         }
     }
     Ok(names)
+}
+
+// What stands behind `# `, where a line begins so.
+fn remark_in<'a>(text: &'a str) -> Option<&'a str>
+    ensures { option_map (λ name. name.now) result ≡ remarked text.entry.now }
+{
+    text.strip_prefix("# ")
 }

@@ -2,25 +2,22 @@
 ghost use Rattle.std.specs.Prelude.{◌≡◌, ◌+◌, ◌<◌, ◌^◌, ◌∷◌, ℕ, IfOk, None, length, map};
 ghost use Rattle.value_syntax.specs.Reading.{IfRead, texts_of};
 ghost use Rattle.edge_rows.specs.Reading.{IfAccepted, IfNoneRead, IfRefused};
-ghost use Rattle.edge_rows.specs.Rows.{IsEdgeRead, IsFirstRefused, IsReadAs, IsRefusedAt, IsWeight, Say, SaysEdges, comma_fields_in, row_of, scale_of};
+ghost use Rattle.edge_rows.specs.Rows.{IsEdgeRead, IsFirstRefused, IsReadAs, IsRefusedAt, IsWeight, Say, SaysEdges, row_of, scale_of};
 
-use crate::forms::{Writing, is_nothing, scale_of, word_fields};
-use crate::header::lines_before;
+use crate::forms::{Writing, fields_in, scale_of};
+use crate::header::{is_silent, lines_before};
 use crate::name::is_name;
-use crate::records::{has_comma, record_in, texts_in};
+use crate::records::texts_in;
 use crate::refused::{Form, LineRefused};
 use crate::row::Row;
 use crate::scale::scaled_weight;
-use crate::words::{first_of, words_in};
-use std::alloc::{AllocError, Global};
+use crate::words::first_of;
+use crate::{Judged, Tried};
+use std::alloc::Global;
 use value_syntax::{lines_in, number};
 
 /// The rows of a text in this form, or its first line that says no edge.
-pub fn read_rows(
-    alloc: Global,
-    text: &str,
-    writing: Writing,
-) -> Result<Result<Vec<Row>, LineRefused>, AllocError>
+pub fn read_rows(alloc: Global, text: &str, writing: Writing) -> Judged<Vec<Row>, LineRefused>
     ensures found { IfAccepted result (λ rows. SaysEdges writing text.now (map row_of rows.items)) }
     ensures refused { IfRefused result (λ refused. IsRefusedAt writing text.now refused.number) }
 {
@@ -35,7 +32,7 @@ fn rows_in(
     writing: Writing,
     before: usize,
     texts: &[&str],
-) -> Result<Result<Vec<Row>, LineRefused>, AllocError>
+) -> Judged<Vec<Row>, LineRefused>
     requires { before + length texts.now < 2 ^ 64 }
     ensures found { IfAccepted result (λ rows. Say writing before (texts_of texts.now) (map row_of rows.items)) }
     ensures refused { IfRefused result (λ refused. IsFirstRefused writing before (texts_of texts.now) refused.number) }
@@ -61,61 +58,42 @@ pub(crate) enum Read {
     Refused(Form),
 }
 
-fn read_one(alloc: Global, writing: Writing, line: usize, text: &str) -> Result<Read, AllocError>
+#[tactic(auto, using(crate::proofs::RowLemmas::as_read))]
+fn read_one(alloc: Global, writing: Writing, line: usize, text: &str) -> Tried<Read>
     ensures { IfOk result (λ read. IsReadAs writing line text.now read) }
 {
-    let words = words_in(alloc, text)?;
-    if is_nothing(writing, &words) {
+    if is_silent(alloc, writing, text)? {
         return Ok(Read::Nothing);
     }
-    if has_comma(text) {
-        return read_record(alloc, writing, line, text);
-    }
-    let fields = word_fields(alloc, writing, &words)?;
-    read_fields(alloc, writing, line, &fields)
+    let record = fields_in(alloc, writing, text)?;
+    let fields = texts_in(alloc, &record)?;
+    let read = read_fields(alloc, writing, line, &fields)?;
+    Ok(read)
 }
 
-// What a line of a form should have been.
-fn form_in(writing: Writing) -> Form {
+// What a line of a form should have been that has so many fields.
+fn form_in(writing: Writing, fields: usize) -> Form {
     match writing {
+        Writing::Edges(..) if fields == 0 => Form::Record,
         Writing::Edges(..) => Form::Fields,
         Writing::Dimacs => Form::Arc,
         Writing::Relations => Form::Relation,
     }
 }
 
-// What a line with commas is, where it says something: a record of an edge list.
-fn read_record(alloc: Global, writing: Writing, line: usize, text: &str) -> Result<Read, AllocError>
-    ensures { IfOk result (λ read. IsEdgeRead (scale_of writing) line (comma_fields_in writing text.now) read) }
-{
-    match writing {
-        Writing::Edges(..) => {}
-        _ => return Ok(Read::Refused(form_in(writing))),
-    }
-    let record = record_in(alloc, text)?;
-    if record.is_empty() {
-        return Ok(Read::Refused(Form::Record));
-    }
-    let fields = texts_in(alloc, &record)?;
-    read_fields(alloc, writing, line, &fields)
-}
-
 // What a line of these fields is, where it says something.
-fn read_fields(
-    alloc: Global,
-    writing: Writing,
-    line: usize,
-    fields: &[&str],
-) -> Result<Read, AllocError>
+fn read_fields(alloc: Global, writing: Writing, line: usize, fields: &[&str]) -> Tried<Read>
     ensures { IfOk result (λ read. IsEdgeRead (scale_of writing) line (texts_of fields.now) read) }
 {
+    let form = form_in(writing, fields.len());
     let Some((a, behind)) = first_of(fields) else {
-        return Ok(Read::Refused(form_in(writing)));
+        return Ok(Read::Refused(form));
     };
     let Some((b, rest)) = first_of(behind) else {
-        return Ok(Read::Refused(form_in(writing)));
+        return Ok(Read::Refused(form));
     };
-    read_ends(alloc, writing, line, a, b, rest)
+    let read = read_ends(alloc, writing, line, a, b, rest)?;
+    Ok(read)
 }
 
 // What a line should have been, where so many fields behind its two ends say no weight.
@@ -140,14 +118,14 @@ fn read_ends(
     a: &str,
     b: &str,
     rest: &[&str],
-) -> Result<Read, AllocError>
+) -> Tried<Read>
     ensures { IfOk result (λ read. IsEdgeRead (scale_of writing) line (a.now ∷ b.now ∷ texts_of rest.now) read) }
 {
     let Some(weight) = weight_in(alloc, scale_of(writing), rest)? else {
-        return Ok(Read::Refused(form_of(rest.len(), form_in(writing))));
+        return Ok(Read::Refused(form_of(rest.len(), form_in(writing, 2))));
     };
     if !is_name(a) || !is_name(b) {
-        return Ok(Read::Refused(form_of_ends(a, b, form_in(writing))));
+        return Ok(Read::Refused(form_of_ends(a, b, form_in(writing, 2))));
     }
     let a = String::from_str(alloc, a)?;
     let b = String::from_str(alloc, b)?;
@@ -155,7 +133,7 @@ fn read_ends(
 }
 
 // The weight that stands behind the ends, 1 where nothing does.
-fn weight_in(alloc: Global, scale: Option<u32>, fields: &[&str]) -> Result<Option<u32>, AllocError>
+fn weight_in(alloc: Global, scale: Option<u32>, fields: &[&str]) -> Tried<Option<u32>>
     ensures some { IfRead result (λ w. IsWeight scale w (texts_of fields.now)) }
     ensures none { IfNoneRead result ((w : ℕ) → w < 2 ^ 32 → IsWeight scale w (texts_of fields.now) → ⊥) }
 {
@@ -165,7 +143,7 @@ fn weight_in(alloc: Global, scale: Option<u32>, fields: &[&str]) -> Result<Optio
     }
 }
 
-fn plain_weight(alloc: Global, fields: &[&str]) -> Result<Option<u32>, AllocError>
+fn plain_weight(alloc: Global, fields: &[&str]) -> Tried<Option<u32>>
     ensures some { IfRead result (λ w. IsWeight None w (texts_of fields.now)) }
     ensures none { IfNoneRead result ((w : ℕ) → w < 2 ^ 32 → IsWeight None w (texts_of fields.now) → ⊥) }
 {

@@ -6,8 +6,10 @@ ghost use Rattle.csv.specs.Records.{fields_of as record_fields, trimmed};
 ghost use Rattle.csv.specs.declared.parser.State.{State};
 ghost use Rattle.csv.specs.declared.parser.State.TheVariants.{StartRecord};
 ghost use Rattle.value_syntax.specs.Reading.{texts_of};
-ghost use Rattle.edge_rows.specs.Records.{GivesNext, StandsAt, begins_quote, comma_fields, has_comma, hides_quote, next, raw_fields};
+ghost use Rattle.edge_rows.specs.Records.{GivesNext, StandsAt, comma_fields, has_comma, hides_quote, next, raw_fields};
 
+use crate::Tried;
+use crate::name::begins;
 use csv::{ByteRecord, Reader, ReaderBuilder, StringRecord};
 use std::alloc::{AllocError, Global};
 
@@ -29,7 +31,7 @@ fn reader_of(alloc: Global, text: &[u8]) -> Reader<&[u8]>
 }
 
 // The next record, and whether there is one.
-fn next_of(reader: &mut Reader<&[u8]>, row: &mut ByteRecord) -> Result<bool, AllocError>
+fn next_of(reader: &mut Reader<&[u8]>, row: &mut ByteRecord) -> Tried<bool>
     ensures { (state : State) → (text : List ℕ) → StandsAt reader.old state text
         → IfOk result (λ found. GivesNext (next state text) found (record_fields row.new) reader.new) }
 {
@@ -47,7 +49,7 @@ fn is_one(first: bool, second: bool, third: bool) -> bool
 }
 
 // The record that a line is; no field where it isn't just one.
-fn raw_record(alloc: Global, text: &str) -> Result<ByteRecord, AllocError>
+fn raw_record(alloc: Global, text: &str) -> Tried<ByteRecord>
     ensures { IfOk result (λ row. record_fields row ≡ raw_fields text.now) }
 {
     let lines = format!(in alloc; "\n{text}\n,\n")?;
@@ -63,16 +65,6 @@ fn raw_record(alloc: Global, text: &str) -> Result<ByteRecord, AllocError>
     Ok(ByteRecord::new(alloc))
 }
 
-// Whether a field begins with a quotation mark.
-fn begins_quote(field: &[u8]) -> bool
-    ensures { result ≡ begins_quote field.now }
-{
-    match field {
-        [first, ..] => *first == b'"',
-        [] => false,
-    }
-}
-
 // Whether a blank stands before the quotation mark of a field; the second record is the first without blanks.
 fn is_hiding(raw: &ByteRecord, bare: &ByteRecord) -> bool
     requires { record_fields bare.now ≡ map trimmed (record_fields raw.now) }
@@ -80,25 +72,17 @@ fn is_hiding(raw: &ByteRecord, bare: &ByteRecord) -> bool
 {
     bare.iter()
         .zip(raw.iter())
-        .any(|(bare, raw)| begins_quote(bare) && !begins_quote(raw))
-}
-
-// The same record, without the blanks around its fields.
-fn bared(raw: &ByteRecord) -> Result<ByteRecord, AllocError>
-    ensures { IfOk result (λ bare. record_fields bare ≡ map trimmed (record_fields raw.now)) }
-{
-    let mut bare = raw.clone()?;
-    bare.trim()?;
-    Ok(bare)
+        .any(|(bare, raw)| begins(b'"', bare) && !begins(b'"', raw))
 }
 
 /// The record that a line is, without the blanks around its fields; no field where the line isn't just one record, or a
 /// blank stands before a quoted field.
-pub(crate) fn record_in(alloc: Global, text: &str) -> Result<StringRecord, AllocError>
+pub(crate) fn record_in(alloc: Global, text: &str) -> Tried<StringRecord>
     ensures { IfOk result (λ row. record_fields row ≡ comma_fields text.now) }
 {
     let raw = raw_record(alloc, text)?;
-    let bare = bared(&raw)?;
+    let mut bare = raw.clone()?;
+    bare.trim()?;
     if is_hiding(&raw, &bare) {
         return Ok(StringRecord::new(alloc));
     }
@@ -109,7 +93,7 @@ pub(crate) fn record_in(alloc: Global, text: &str) -> Result<StringRecord, Alloc
 }
 
 /// The fields of a record.
-pub(crate) fn texts_in<'a>(alloc: Global, row: &'a StringRecord) -> Result<Vec<&'a str>, AllocError>
+pub(crate) fn texts_in<'a>(alloc: Global, row: &'a StringRecord) -> Tried<Vec<&'a str>>
     ensures { IfOk result (λ fields. texts_of fields.items ≡ record_fields row.entry.now) }
 {
     row.iter().collect(alloc)

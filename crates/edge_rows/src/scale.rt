@@ -6,16 +6,13 @@ ghost use Rattle.edge_rows.specs.Labels.{are_digits};
 ghost use Rattle.edge_rows.specs.Reading.{IfNoneRead};
 ghost use Rattle.edge_rows.specs.Rows.{IsWeight, nearest, scaled_digits, scaled_parts};
 
+use crate::Tried;
 use crate::name::are_digits;
 use crate::words::parts_in;
-use std::alloc::{AllocError, Global};
+use std::alloc::Global;
 
 /// The weight that stands behind the ends of an edge, multiplied and rounded; it is 1 where nothing does.
-pub(crate) fn scaled_weight(
-    alloc: Global,
-    scale: u32,
-    fields: &[&str],
-) -> Result<Option<u32>, AllocError>
+pub(crate) fn scaled_weight(alloc: Global, scale: u32, fields: &[&str]) -> Tried<Option<u32>>
     ensures some { IfRead result (λ w. IsWeight (Some scale) w (texts_of fields.now)) }
     ensures none { IfNoneRead result ((w : ℕ) → w < 2 ^ 32 → IsWeight (Some scale) w (texts_of fields.now) → ⊥) }
 {
@@ -33,7 +30,7 @@ pub(crate) fn scaled_weight(
 }
 
 // A decimal number by the parts around its point, multiplied.
-fn scaled_parts(alloc: Global, scale: u32, parts: &[&str]) -> Result<Option<u128>, AllocError>
+fn scaled_parts(alloc: Global, scale: u32, parts: &[&str]) -> Tried<Option<u128>>
     ensures { IfOk result (λ number. number ≡ scaled_parts scale (texts_of parts.now)) }
 {
     match parts {
@@ -43,12 +40,7 @@ fn scaled_parts(alloc: Global, scale: u32, parts: &[&str]) -> Result<Option<u128
     }
 }
 
-fn scaled_digits(
-    alloc: Global,
-    scale: u32,
-    whole: &str,
-    part: &str,
-) -> Result<Option<u128>, AllocError>
+fn scaled_digits(alloc: Global, scale: u32, whole: &str, part: &str) -> Tried<Option<u128>>
     ensures { IfOk result (λ number. number ≡ scaled_digits scale whole.now part.now) }
 {
     let digits = format!(in alloc; "{whole}{part}")?;
@@ -60,6 +52,7 @@ fn scaled_digits(
 }
 
 // The number that digits write.
+#[tactic(auto, using(crate::proofs::ScaleLemmas::value_parsed))]
 fn value_of(digits: &str) -> u64
     requires digits { are_digits digits.now ≡ true }
     requires few { length digits.now ≤ 18 }

@@ -4,14 +4,11 @@ ghost use Rattle.value_syntax.specs.Reading.{texts_of};
 ghost use Rattle.std.specs.List.{flat_map};
 ghost use Rattle.edge_rows.specs.Rows.{parts_at, unless_empty, words_of};
 
-use std::alloc::{AllocError, Global};
+use crate::Tried;
+use std::alloc::Global;
 
 /// What stands between such characters, in front of them and behind.
-pub(crate) fn parts_in<'a>(
-    alloc: Global,
-    text: &'a str,
-    at: char,
-) -> Result<Vec<&'a str>, AllocError>
+pub(crate) fn parts_in<'a>(alloc: Global, text: &'a str, at: char) -> Tried<Vec<&'a str>>
     requires { at < 128 }
     ensures { IfOk result (λ parts. texts_of parts.items ≡ parts_at at text.entry.now) }
 {
@@ -19,9 +16,9 @@ pub(crate) fn parts_in<'a>(
 }
 
 // The parts of each text.
-fn cut_each<'a>(alloc: Global, texts: &[&'a str], at: char) -> Result<Vec<&'a str>, AllocError>
+fn cut_each<'a>(alloc: Global, texts: &[&'a str], at: char) -> Tried<Vec<&'a str>>
     requires { at < 128 }
-    ensures { IfOk result (λ parts. texts_of parts.items ≡ flat_map (λ x. parts_at at x.now) texts.now) }
+    ensures { IfOk result (λ parts. texts_of parts.items ≡ flat_map (parts_at at) (texts_of texts.now)) }
 {
     let mut parts = Vec::new(alloc);
     for text in texts {
@@ -32,8 +29,8 @@ fn cut_each<'a>(alloc: Global, texts: &[&'a str], at: char) -> Result<Vec<&'a st
 }
 
 // Those that aren't empty.
-fn kept<'a>(alloc: Global, parts: &[&'a str]) -> Result<Vec<&'a str>, AllocError>
-    ensures { IfOk result (λ words. texts_of words.items ≡ flat_map (λ x. unless_empty x.now) parts.now) }
+fn kept<'a>(alloc: Global, parts: &[&'a str]) -> Tried<Vec<&'a str>>
+    ensures { IfOk result (λ words. texts_of words.items ≡ flat_map unless_empty (texts_of parts.now)) }
 {
     let mut words = Vec::new(alloc);
     for part in parts {
@@ -45,7 +42,7 @@ fn kept<'a>(alloc: Global, parts: &[&'a str]) -> Result<Vec<&'a str>, AllocError
 }
 
 /// The words of a text: what stands between blanks, tabs and carriage returns, where something does.
-pub(crate) fn words_in<'a>(alloc: Global, text: &'a str) -> Result<Vec<&'a str>, AllocError>
+pub(crate) fn words_in<'a>(alloc: Global, text: &'a str) -> Tried<Vec<&'a str>>
     ensures { IfOk result (λ words. texts_of words.items ≡ words_of text.entry.now) }
 {
     let parts = parts_in(alloc, text, ' ')?;

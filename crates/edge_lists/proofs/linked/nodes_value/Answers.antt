@@ -3,15 +3,10 @@ use Rattle.serde_json.proofs.Views.{view-Array}
 use Rattle.serde_json.specs.Data.{Data, array}
 use Rattle.serde_json.specs.View.{items_of}
 use Rattle.edge_lists.specs.Linked.{below, node_data}
-use Rattle.edge_lists.proofs.LinkedLemmas.{value_next}
-use Rattle.edge_rows.proofs.WordLemmas.{texts_at}
+use Rattle.value_syntax.specs.Reading.{texts_of}
 use Rattle.edge_lists.proofs.linked.nodes_value.Goals as goal
-
-pub loop-node-preserved : goal.loop-node-preserved
-loop-node-preserved c =
-    value_next (node_data (texts_at c.args.names.now)) c.loop-node.node c.loop-node.all.items c.push.new.self.items c.in_ok-value.value c.loop-node.invariant c.in_ok-push.ensures.items c.in_ok-value.ensures
 
 pub returns : goal.returns
 returns c =
     let at_end : c.loop-node.node ≡ c.args.nodes = omega arith in
-    view-Array c.loop-node.all ∙ ap (λ (l : List Data). array (items_of l)) (c.loop-node.invariant ∙ ap (λ (n : ℕ). map (node_data (texts_at c.args.names.now)) (below n)) at_end)
+    view-Array c.loop-node.all ∙ ap (λ (l : List Data). array (items_of l)) (c.loop-node.invariant ∙ ap (λ (n : ℕ). map (node_data (texts_of c.args.names.now)) (below n)) at_end)

@@ -1,6 +1,6 @@
-use Rattle.std.proofs.Common.{◌≡◌, ◌+◌, drop}
-use Rattle.edge_rows.proofs.HeaderLemmas.{lead_left}
+use Rattle.std.proofs.Common.{◌≡◌, ◌+◌, drop, map}
+use Rattle.edge_rows.specs.Rows.{lead}
 use Rattle.edge_rows.proofs.header.lines_before.Given as goal
 
 abbrev pub invariant-loop-index : goal.invariant-loop-index
-invariant-loop-index l = lead_left l.writing l.texts ≡ l.index + lead_left l.writing (drop l.index l.texts)
+invariant-loop-index l = lead l.writing (map (λ x. x.now) l.texts) ≡ l.index + lead l.writing (map (λ x. x.now) (drop l.index l.texts))

@@ -3,15 +3,15 @@ use Rattle.std.proofs.lemmas.Grind.{common_steps}
 use Rattle.std.proofs.lemmas.List.{map_push}
 use Rattle.edge_rows.specs.declared.row.Row.{Row}
 use Rattle.edge_rows.specs.Rows.{IsReadAs, Said, Say, row_of}
-use Rattle.edge_rows.proofs.HeaderLemmas.{nowhere}
+use Rattle.value_syntax.proofs.Written.{nowhere}
 use Rattle.edge_rows.proofs.RowLemmas.{first_refused, nothing_at, one_text_more, row_at}
-use Rattle.edge_rows.proofs.WordLemmas.{texts_at}
+use Rattle.value_syntax.specs.Reading.{texts_of}
 use Rattle.edge_rows.proofs.reading.rows_in.Goals as goal
 use Rattle.edge_rows.proofs.reading.rows_in.Goals.{in-Nothing, in-Row+in_ok-push-in-Row}
 
 pub returns-in-Refused-clause-refused : goal.returns-in-Refused-clause-refused
 returns-in-Refused-clause-refused c =
-    let texts = texts_at c.args.texts.now in
+    let texts = texts_of c.args.texts.now in
     let i = c.loop-index.index in
     let text = (get_or c.args.texts.now i nowhere).now in
     let within : i < length c.args.texts.now = omega arith in
@@ -32,11 +32,11 @@ loop-index-preserved c =
       | in-Nothing w ↦
           let none = subst IsRead w.in-Nothing.is c.in_ok-read_one.ensures in
           let same : c.match-branch-2.rows.items ≡ rows = search rules in
-          subst (λ (l : List Row). Say writing before (take (i + 1) (texts_at all)) (map row_of l)) (sym same) (nothing_at writing before all i nowhere lt (map row_of rows) c.loop-index.invariant none)
+          subst (λ (l : List Row). Say writing before (take (i + 1) (texts_of all)) (map row_of l)) (sym same) (nothing_at writing before all i nowhere lt (map row_of rows) c.loop-index.invariant none)
       | in-Row+in_ok-push-in-Row w ↦
           let row = w.in-Row.row in
           let one = subst IsRead w.in-Row.is c.in_ok-read_one.ensures in
           let items : c.match-branch-2.rows.items ≡ rows ++ row ∷ [] = search rules in
-          subst (λ (l : List Row). Say writing before (take (i + 1) (texts_at all)) (map row_of l)) (sym items)
-          (subst (λ (l : List Said). Say writing before (take (i + 1) (texts_at all)) l) (sym (map_push row_of rows row)) (row_at writing before all i nowhere lt (map row_of rows) c.loop-index.invariant (row_of row) one.0 one.1))
+          subst (λ (l : List Row). Say writing before (take (i + 1) (texts_of all)) (map row_of l)) (sym items)
+          (subst (λ (l : List Said). Say writing before (take (i + 1) (texts_of all)) l) (sym (map_push row_of rows row)) (row_at writing before all i nowhere lt (map row_of rows) c.loop-index.invariant (row_of row) one.0 one.1))
     ]

@@ -8,7 +8,7 @@ use Rattle.std.proofs.lemmas.Iterator.Search.{any_from_yields_List}
 use Rattle.csv.specs.Records.{field_at, fields_of, trimmed}
 use Rattle.csv.specs.declared.record.ByteRecord.{ByteRecord}
 use Rattle.csv.specs.declared.record.ByteRecordIter.{ByteRecordIter}
-use Rattle.edge_rows.specs.Records.{begins_quote}
+use Rattle.edge_rows.specs.Labels.{begins}
 use Rattle.edge_rows.proofs.RecordLemmas.{hides_any, next_left, none_left}
 use Rattle.edge_rows.proofs.records.is_hiding.Goals as goal
 
@@ -17,7 +17,7 @@ abbrev steps : ByteRecordIter → Option (Bor (List ℕ)) → ByteRecordIter →
 steps s field t = (t.row ≡ s.row) × (option_map (λ (x : Bor (List ℕ)). x.now) field ≡ field_at (fields_of s.row.now) s.at) × IfSome field (λ _. t.at ≡ s.at + 1)
 
 abbrev test : List ℕ × List ℕ → Bool
-test p = begins_quote p.0 && not (begins_quote p.1)
+test p = begins 34 p.0 && not (begins 34 p.1)
 
 pub returns : goal.returns
 returns c =

@@ -4,4 +4,4 @@ use Rattle.edge_rows.specs.Rows.{parts_at}
 use Rattle.edge_rows.proofs.words.cut_each.Given as goal
 
 abbrev pub invariant-loop-text : goal.invariant-loop-text
-invariant-loop-text l = map (λ x. x.now) l.parts.items ≡ flat_map (λ x. parts_at l.at x.now) (take l.text-index l.texts)
+invariant-loop-text l = map (λ x. x.now) l.parts.items ≡ flat_map (parts_at l.at) (map (λ x. x.now) (take l.text-index l.texts))

@@ -4,4 +4,4 @@ use Rattle.edge_rows.specs.Rows.{unless_empty}
 use Rattle.edge_rows.proofs.words.kept.Given as goal
 
 abbrev pub invariant-loop-part : goal.invariant-loop-part
-invariant-loop-part l = map (λ x. x.now) l.words.items ≡ flat_map (λ x. unless_empty x.now) (take l.part-index l.parts)
+invariant-loop-part l = map (λ x. x.now) l.words.items ≡ flat_map unless_empty (map (λ x. x.now) (take l.part-index l.parts))

@@ -2,7 +2,7 @@ use Rattle.std.proofs.Common.{rules, arith, ◌≡◌, ◌<◌, ◌∙◌, ◌�
 use Rattle.std.proofs.lemmas.Grind.{common_steps}
 use Rattle.edge_lists.specs.NameLists.{has_number, is_among, with_name}
 use Rattle.edge_rows.specs.Labels.{is_name}
-use Rattle.edge_rows.proofs.HeaderLemmas.{nowhere}
+use Rattle.value_syntax.proofs.Written.{nowhere}
 use Rattle.edge_lists.proofs.TakeLemmas.{names_more, no_name, no_room, texts_more}
 use Rattle.edge_lists.proofs.names.Names.from_lines.Goals as goal
 
