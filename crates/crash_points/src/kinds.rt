@@ -1,7 +1,8 @@
-//! What a trial came to.
-ghost use Rattle.std.specs.Prelude.{◌≡◌, Some};
-ghost use Rattle.crash_points.specs.Tables.{count_text, is_kind};
+//! What trials came to, and a table of it.
+ghost use Rattle.std.specs.Prelude.{◌≡◌, IfOk, Some, map};
+ghost use Rattle.crash_points.specs.Tables.{IsTableOf, count_text, row_of, times};
 
+use std::alloc::{AllocError, Global};
 use std::fmt;
 
 /// What a trial came to: three numbers of changes. Kinds are in order by the first in which they differ.
@@ -13,17 +14,6 @@ pub struct Kind {
     pub acknowledged: u64,
     /// Those that the next opening found.
     pub opened: u64,
-}
-
-impl Kind {
-    /// Whether this is the same kind.
-    pub fn is_same(&self, other: &Kind) -> bool
-        ensures { result ≡ is_kind self.now other.now }
-    {
-        self.found == other.found
-            && self.acknowledged == other.acknowledged
-            && self.opened == other.opened
-    }
 }
 
 /// So many trials came to this kind: `found=F acknowledged=A opened=O stops=N`.
@@ -43,4 +33,33 @@ impl fmt::Display for KindCount {
             self.kind.found, self.kind.acknowledged, self.kind.opened, self.trials
         )
     }
+}
+
+/// How many of these trials came to each kind, in ascending order.
+pub fn table_of(alloc: Global, kinds: &[Kind]) -> Result<Vec<KindCount>, AllocError>
+    ensures { IfOk result (λ rows. IsTableOf kinds.now rows.items) }
+{
+    let mut each = Vec::from_slice(alloc, kinds)?;
+    each.sort_unstable();
+    each.dedup();
+    rows_of(alloc, kinds, &each)
+}
+
+// The row of each of these, in their order.
+fn rows_of(alloc: Global, kinds: &[Kind], each: &[Kind]) -> Result<Vec<KindCount>, AllocError>
+    ensures { IfOk result (λ rows. rows.items ≡ map (row_of kinds.now) each.now) }
+{
+    each.iter()
+        .map(|kind| KindCount {
+            kind: *kind,
+            trials: trials_of(kinds, *kind),
+        })
+        .collect(alloc)
+}
+
+// How many trials came to this kind.
+fn trials_of(kinds: &[Kind], kind: Kind) -> u64
+    ensures { result ≡ times kind kinds.now }
+{
+    kinds.iter().filter(|other| kind == **other).count() as u64
 }

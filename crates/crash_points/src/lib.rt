@@ -1,7 +1,5 @@
 //! The stops of a device: which there are, and a table of what they left.
 //!
-//! # What it is
-//!
 //! A device can stop at each of its calls, and in a write behind each number of bytes. [`Watched`] is a disk in memory that notes the calls
 //! that were made of it since it was last armed. [`stops_of`] lists the [`Stop`]s of such calls, and [`count_stops`] counts them. Whoever
 //! tries them says what [`Kind`] each trial came to, and [`table_of`] counts the kinds.
@@ -22,10 +20,8 @@
 
 mod kinds;
 mod stops;
-mod tables;
 mod watched;
 
-pub use kinds::{Kind, KindCount};
+pub use kinds::{Kind, KindCount, table_of};
 pub use stops::{Call, Stop, count_stops, stops_of};
-pub use tables::table_of;
 pub use watched::Watched;

@@ -1,5 +1,5 @@
 //! The stops of calls.
-ghost use Rattle.std.specs.Prelude.{◌≡◌, ◌-◌, ◌^◌, ◌++◌, min, take, IfOk, OnOk};
+ghost use Rattle.std.specs.Prelude.{◌≡◌, ◌≤◌, ◌-◌, ◌^◌, ◌++◌, length, min, take, IfOk, OnOk};
 ghost use Rattle.crash_points.specs.Stops.{bytes_of, first_stops, stop_count, stops_at};
 
 use std::alloc::{AllocError, Global};
@@ -40,22 +40,21 @@ pub fn stops_of(alloc: Global, calls: &[Call], most: usize) -> Result<Vec<Stop>,
 {
     let mut stops = Vec::new(alloc);
     for i in 0..calls.len() {
+        if stops.len() == most {
+            return Ok(stops);
+        }
         push_stops(&mut stops, i as u64 + 1, calls[i], most)?;
     }
     Ok(stops)
 }
 
-// The stops of one call behind the others, of all of them the first `most`.
+// The stops of one call behind the others, as many as there is room for among the first `most`.
 fn push_stops(stops: &mut Vec<Stop>, number: u64, call: Call, most: usize) -> Result<(), AllocError>
+    requires { length stops.old.items ≤ most }
     ensures { OnOk result (stops.new.items ≡ take most (stops.old.items ++ stops_at number call)) }
 {
-    let bytes = call.bytes();
-    stops.extend((0..bytes).map(|put| Stop { call: number, put }))?;
-    stops.push(Stop {
-        call: number,
-        put: bytes,
-    })?;
-    stops.truncate(most);
+    let count = call.bytes().saturating_add(1).min(most - stops.len());
+    stops.extend((0..count).map(|put| Stop { call: number, put }))?;
     Ok(())
 }
 
@@ -63,10 +62,8 @@ fn push_stops(stops: &mut Vec<Stop>, number: u64, call: Call, most: usize) -> Re
 pub fn count_stops(calls: &[Call]) -> u64
     ensures { result ≡ min (stop_count calls.now) (2 ^ 64 - 1) }
 {
-    let mut stops: u64 = 0;
-    for call in calls {
+    calls.iter().fold(0, |stops: u64, call| {
         let here = (call.bytes() as u64).saturating_add(1);
-        stops = stops.saturating_add(here);
-    }
-    stops
+        stops.saturating_add(here)
+    })
 }

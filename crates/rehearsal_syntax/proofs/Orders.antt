@@ -1,5 +1,5 @@
 -- Lines that stand in their order, and the first that doesn't.
-use Rattle.std.proofs.Common.{arith, ◌≡◌, ◌≤◌, sym, ap, refl, subst, ℕ, List, [], ◌∷◌, ◌++◌, map, decimal, codes}
+use Rattle.std.proofs.Common.{arith, ◌≡◌, sym, ap, refl, subst, ℕ, List, [], ◌∷◌, ◌++◌, map, decimal}
 use Rattle.std.proofs.lemmas.Fmt.{decimal_injective}
 use Rattle.rehearsal_syntax.specs.declared.line.RehearsalLine.{RehearsalLine}
 use Rattle.rehearsal_syntax.specs.declared.line.RehearsalLine.TheVariants.{Device}
@@ -17,13 +17,10 @@ stage_more stage [] line = refl
 stage_more stage (l ∷ ls) line = stage_more (stage_after stage l) ls line
 
 -- the same words bring it as far
-same_count : (m n : ℕ) → m ≤ 16384 → n ≤ 16384 → (codes "device" ∷ decimal m ∷ []) ≡ (codes "device" ∷ decimal n ∷ []) → Made m ≡ Made n
-same_count m n fm fn is =
-    let texts : decimal m ≡ decimal n = cc in
-    ap (λ k. Made k) (decimal_injective m n (omega (arith, fm)) (omega (arith, fn)) texts)
-
 pub same_stage : (stage : Stage) (one other : RehearsalLine) → MayStand stage one → MayStand stage other → line_words one ≡ line_words other → stage_after stage one ≡ stage_after stage other
-same_stage Empty (Device m) (Device n) fm fn is = same_count m n fm.1 fn.1 is
+same_stage Empty (Device m) (Device n) fm fn is =
+    let texts : decimal m ≡ decimal n = cc in
+    ap (λ k. Made k) (decimal_injective m n (omega (arith, fm.1)) (omega (arith, fn.1)) texts)
 same_stage Empty (Device m) other fm fn is = absurd (fn)
 same_stage Empty one other fm fn is = absurd (fm)
 same_stage (Made nodes) one other fm fn is = refl

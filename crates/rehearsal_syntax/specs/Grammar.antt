@@ -37,10 +37,6 @@ life_fields life =
 abbrev pub pair_words : ℕ → ℕ → List (List ℕ)
 pair_words a b = decimal a ∷ decimal b ∷ []
 
--- two nodes, and how many postings were seen, in decimal
-abbrev pub launch_words : ℕ → ℕ → ℕ → List (List ℕ)
-launch_words from to at = decimal from ∷ pair_words to at
-
 -- the words of a line
 abbrev pub line_words : RehearsalLine → List (List ℕ)
 line_words (Device nodes) = codes "device" ∷ decimal nodes ∷ []
@@ -51,7 +47,7 @@ line_words Take = codes "take" ∷ []
 line_words Commit = codes "commit" ∷ []
 line_words Post = codes "post" ∷ []
 line_words (Rebuild words) = codes "rebuild" ∷ words_text words ∷ []
-line_words (Launch from to at) = codes "launch" ∷ launch_words from to at
+line_words (Launch from to at) = codes "launch" ∷ decimal from ∷ pair_words to at
 line_words (Hop packet at) = codes "hop" ∷ pair_words packet at
 
 -- ---- which line may stand where
@@ -91,22 +87,18 @@ IsEvent nodes (Rebuild words) = AreOfDevice nodes words
 IsEvent nodes (Launch from to at) = (from < 2 ^ 16) × (to < 2 ^ 16) × (at < 2 ^ 64)
 IsEvent nodes (Hop packet at) = (packet < 2 ^ 64) × (at < 2 ^ 64)
 
--- an event of a device of any size
-abbrev pub IsEventAnywhere : RehearsalLine → Type 0
-IsEventAnywhere line = (nodes : ℕ) → IsEvent nodes line
-
--- a life or an event
-abbrev pub IsLifeOrEvent : ℕ → RehearsalLine → Type 0
-IsLifeOrEvent nodes (Life life) = IsLife nodes life
-IsLifeOrEvent nodes line = IsEvent nodes line
-
 -- the first line makes a device, the second begins a life, and behind it come lives and events
 abbrev pub MayStand : Stage → RehearsalLine → Type 0
 MayStand Empty (Device nodes) = (1 ≤ nodes) × (nodes ≤ 16384)
 MayStand Empty line = ⊥
 MayStand (Made nodes) (Life life) = IsLife nodes life
 MayStand (Made nodes) line = ⊥
-MayStand (Living nodes) line = IsLifeOrEvent nodes line
+MayStand (Living nodes) (Life life) = IsLife nodes life
+MayStand (Living nodes) line = IsEvent nodes line
+
+-- in lives of a device of any size
+abbrev pub MayStandAnywhere : RehearsalLine → Type 0
+MayStandAnywhere line = (nodes : ℕ) → MayStand (Living nodes) line
 
 -- how far a rehearsal has come behind one line more
 abbrev pub stage_after : Stage → RehearsalLine → Stage

@@ -1,7 +1,5 @@
 //! Rehearsals as a user writes them, read exactly: a device, lives of it, and the events of each.
 //!
-//! # What it is
-//!
 //! A rehearsal is a text. Its first line makes a device. Each life begins with a line that says how it opens, which call of the device
 //! fails and what the crash leaves; the lines behind it are its events, in their order. [`read_rehearsal`] reads the text into
 //! [`RehearsalLine`]s and runs nothing.

@@ -6,7 +6,7 @@ ghost use Rattle.value_syntax.specs.OpText.{op_text, pair_text};
 ghost use Rattle.value_syntax.specs.Reading.{IfRead, Reads, texts_of};
 ghost use Rattle.value_syntax.specs.Scripts.{IsChange};
 ghost use Rattle.value_syntax.specs.WordsText.{words_text};
-ghost use Rattle.rehearsal_syntax.specs.Grammar.{AreOfDevice, FitsPlan, IsEvent, IsEventAnywhere, IsFew, IsLife, IsLifeOrEvent, MayStand, end_words, launch_words, life_fields, line_words, pair_words, plan_words};
+ghost use Rattle.rehearsal_syntax.specs.Grammar.{AreOfDevice, FitsPlan, IsFew, IsLife, MayStand, MayStandAnywhere, end_words, life_fields, line_words, pair_words, plan_words};
 ghost use Rattle.rehearsal_syntax.specs.Reading.{FindsOnly, ReadsEach, ReadsSome};
 
 use crate::line::{LifeLine, RehearsalLine};
@@ -29,54 +29,24 @@ pub(crate) fn line_in(
         return Ok(None);
     };
     match stage {
-        Stage::Empty => device_in(alloc, *first, rest),
-        Stage::Made(nodes) => life_line(alloc, *first, rest, nodes),
+        Stage::Empty if *first == "device" => device_in(alloc, rest),
+        Stage::Empty => Ok(None),
+        Stage::Made(nodes) if *first == "life" => life_in(alloc, rest, nodes),
+        Stage::Made(_) => Ok(None),
         Stage::Living(nodes) => living_in(alloc, *first, rest, nodes),
     }
 }
 
-fn device_in(alloc: Global, name: &str, rest: &[&str]) -> Result<Option<RehearsalLine>, AllocError>
-    ensures found { FindsOnly (MayStand Stage.Empty) line_words (name.now ∷ texts_of rest.now) result }
-    ensures only { ReadsEach (MayStand Stage.Empty) line_words (name.now ∷ texts_of rest.now) result }
-{
-    if name != "device" {
-        return Ok(None);
-    }
-    match nodes_in(alloc, rest)? {
-        Some(nodes) => Ok(Some(RehearsalLine::Device { nodes })),
-        None => Ok(None),
-    }
-}
-
-// How many nodes a device has.
-fn nodes_in(alloc: Global, rest: &[&str]) -> Result<Option<u16>, AllocError>
-    ensures found { IfRead result (λ n. (texts_of rest.now ≡ decimal n ∷ []) × (1 ≤ n) × (n ≤ 16384)) }
-    ensures only { (n : ℕ) → 1 ≤ n → n ≤ 16384 → texts_of rest.now ≡ decimal n ∷ [] → Reads result n }
+fn device_in(alloc: Global, rest: &[&str]) -> Result<Option<RehearsalLine>, AllocError>
+    ensures found { FindsOnly (MayStand Stage.Empty) line_words (codes "device" ∷ texts_of rest.now) result }
+    ensures only { (n : ℕ) → 1 ≤ n → n ≤ 16384 → texts_of rest.now ≡ decimal n ∷ [] → ReadsSome result }
 {
     let [nodes] = rest else {
         return Ok(None);
     };
     match number(alloc, nodes, 16_384)? {
-        Some(n) if n >= 1 => Ok(Some(n as u16)),
+        Some(n) if n >= 1 => Ok(Some(RehearsalLine::Device { nodes: n as u16 })),
         _ => Ok(None),
-    }
-}
-
-fn life_line(
-    alloc: Global,
-    name: &str,
-    rest: &[&str],
-    nodes: u16,
-) -> Result<Option<RehearsalLine>, AllocError>
-    ensures found { FindsOnly (MayStand (Stage.Made nodes)) line_words (name.now ∷ texts_of rest.now) result }
-    ensures only { ReadsEach (MayStand (Stage.Made nodes)) line_words (name.now ∷ texts_of rest.now) result }
-{
-    if name != "life" {
-        return Ok(None);
-    }
-    match life_in(alloc, rest, nodes)? {
-        Some(life) => Ok(Some(RehearsalLine::Life(life))),
-        None => Ok(None),
     }
 }
 
@@ -86,48 +56,40 @@ fn living_in(
     rest: &[&str],
     nodes: u16,
 ) -> Result<Option<RehearsalLine>, AllocError>
-    ensures found { FindsOnly (IsLifeOrEvent nodes) line_words (name.now ∷ texts_of rest.now) result }
-    ensures only { ReadsEach (IsLifeOrEvent nodes) line_words (name.now ∷ texts_of rest.now) result }
+    ensures found { FindsOnly (MayStand (Stage.Living nodes)) line_words (name.now ∷ texts_of rest.now) result }
+    ensures only { ReadsEach (MayStand (Stage.Living nodes)) line_words (name.now ∷ texts_of rest.now) result }
 {
-    if name == "life" {
-        life_line(alloc, name, rest, nodes)
-    } else if name == "submit" {
-        submit_in(alloc, rest)
-    } else if name == "look" {
-        look_in(alloc, rest)
-    } else if name == "rebuild" {
-        rebuild_in(alloc, rest, nodes)
-    } else if name == "launch" {
-        launch_in(alloc, rest)
-    } else if name == "hop" {
-        hop_in(alloc, rest)
-    } else if rest.is_empty() {
-        Ok(step_in(name))
-    } else {
-        Ok(None)
+    match name {
+        "life" => life_in(alloc, rest, nodes),
+        "submit" => submit_in(alloc, rest),
+        "look" => look_in(alloc, rest),
+        "rebuild" => rebuild_in(alloc, rest, nodes),
+        "launch" => launch_in(alloc, rest),
+        "hop" => hop_in(alloc, rest),
+        _ => Ok(step_in(name, rest)),
     }
 }
 
 // A step of the committer.
-fn step_in(name: &str) -> Option<RehearsalLine>
-    ensures found { IfSome result (λ line. (name.now ∷ [] ≡ line_words line) × IsEventAnywhere line) }
-    ensures take { name.now ≡ codes "take" → IsSome result }
-    ensures commit { name.now ≡ codes "commit" → IsSome result }
-    ensures post { name.now ≡ codes "post" → IsSome result }
+fn step_in(name: &str, rest: &[&str]) -> Option<RehearsalLine>
+    ensures found { IfSome result (λ line. (name.now ∷ texts_of rest.now ≡ line_words line) × MayStandAnywhere line) }
+    ensures take { name.now ∷ texts_of rest.now ≡ codes "take" ∷ [] → IsSome result }
+    ensures commit { name.now ∷ texts_of rest.now ≡ codes "commit" ∷ [] → IsSome result }
+    ensures post { name.now ∷ texts_of rest.now ≡ codes "post" ∷ [] → IsSome result }
 {
-    if name == "take" {
-        Some(RehearsalLine::Take)
-    } else if name == "commit" {
-        Some(RehearsalLine::Commit)
-    } else if name == "post" {
-        Some(RehearsalLine::Post)
-    } else {
-        None
+    if !rest.is_empty() {
+        return None;
+    }
+    match name {
+        "take" => Some(RehearsalLine::Take),
+        "commit" => Some(RehearsalLine::Commit),
+        "post" => Some(RehearsalLine::Post),
+        _ => None,
     }
 }
 
 fn submit_in(alloc: Global, rest: &[&str]) -> Result<Option<RehearsalLine>, AllocError>
-    ensures found { FindsOnly IsEventAnywhere line_words (codes "submit" ∷ texts_of rest.now) result }
+    ensures found { FindsOnly MayStandAnywhere line_words (codes "submit" ∷ texts_of rest.now) result }
     ensures only { (s t : ℕ) (change : List Op) → s < 2 ^ 8 → t < 2 ^ 64 → IsChange change
         → texts_of rest.now ≡ decimal s ∷ decimal t ∷ map op_text change → ReadsSome result }
 {
@@ -166,14 +128,11 @@ fn two_numbers(
     let Some(a) = number(alloc, a, most.0)? else {
         return Ok(None);
     };
-    match number(alloc, b, most.1)? {
-        Some(b) => Ok(Some((a, b))),
-        None => Ok(None),
-    }
+    Ok(number(alloc, b, most.1)?.map(|b| (a, b)))
 }
 
 fn look_in(alloc: Global, rest: &[&str]) -> Result<Option<RehearsalLine>, AllocError>
-    ensures found { FindsOnly IsEventAnywhere line_words (codes "look" ∷ texts_of rest.now) result }
+    ensures found { FindsOnly MayStandAnywhere line_words (codes "look" ∷ texts_of rest.now) result }
     ensures only { (s at : ℕ) → s < 2 ^ 8 → at < 2 ^ 64 → texts_of rest.now ≡ pair_words s at → ReadsSome result }
 {
     match two_numbers(alloc, rest, (255, u64::MAX))? {
@@ -186,19 +145,19 @@ fn look_in(alloc: Global, rest: &[&str]) -> Result<Option<RehearsalLine>, AllocE
 }
 
 fn hop_in(alloc: Global, rest: &[&str]) -> Result<Option<RehearsalLine>, AllocError>
-    ensures found { FindsOnly IsEventAnywhere line_words (codes "hop" ∷ texts_of rest.now) result }
+    ensures found { FindsOnly MayStandAnywhere line_words (codes "hop" ∷ texts_of rest.now) result }
     ensures only { (p at : ℕ) → p < 2 ^ 64 → at < 2 ^ 64 → texts_of rest.now ≡ pair_words p at → ReadsSome result }
 {
-    match two_numbers(alloc, rest, (u64::MAX, u64::MAX))? {
-        Some((packet, at)) => Ok(Some(RehearsalLine::Hop { packet, at })),
-        None => Ok(None),
-    }
+    Ok(two_numbers(alloc, rest, (u64::MAX, u64::MAX))?.map(|(packet, at)| RehearsalLine::Hop {
+        packet,
+        at,
+    }))
 }
 
 fn launch_in(alloc: Global, rest: &[&str]) -> Result<Option<RehearsalLine>, AllocError>
-    ensures found { FindsOnly IsEventAnywhere line_words (codes "launch" ∷ texts_of rest.now) result }
+    ensures found { FindsOnly MayStandAnywhere line_words (codes "launch" ∷ texts_of rest.now) result }
     ensures only { (from to at : ℕ) → from < 2 ^ 16 → to < 2 ^ 16 → at < 2 ^ 64
-        → texts_of rest.now ≡ launch_words from to at → ReadsSome result }
+        → texts_of rest.now ≡ decimal from ∷ pair_words to at → ReadsSome result }
 {
     let [from, to, at] = rest else {
         return Ok(None);
@@ -209,23 +168,17 @@ fn launch_in(alloc: Global, rest: &[&str]) -> Result<Option<RehearsalLine>, Allo
     let Some(to) = node(alloc, to)? else {
         return Ok(None);
     };
-    match number(alloc, at, u64::MAX)? {
-        Some(at) => Ok(Some(RehearsalLine::Launch { from, to, at })),
-        None => Ok(None),
-    }
+    Ok(number(alloc, at, u64::MAX)?.map(|at| RehearsalLine::Launch { from, to, at }))
 }
 
 fn rebuild_in(alloc: Global, rest: &[&str], nodes: u16) -> Result<Option<RehearsalLine>, AllocError>
-    ensures found { FindsOnly (IsEvent nodes) line_words (codes "rebuild" ∷ texts_of rest.now) result }
+    ensures found { FindsOnly (MayStand (Stage.Living nodes)) line_words (codes "rebuild" ∷ texts_of rest.now) result }
     ensures only { ReadsEach (AreOfDevice nodes) (λ words. words_text words ∷ []) (texts_of rest.now) result }
 {
     let [words] = rest else {
         return Ok(None);
     };
-    match device_words(alloc, words, nodes)? {
-        Some(words) => Ok(Some(RehearsalLine::Rebuild { words })),
-        None => Ok(None),
-    }
+    Ok(device_words(alloc, words, nodes)?.map(|words| RehearsalLine::Rebuild { words }))
 }
 
 // Landmark words of a device of so many nodes.
@@ -241,8 +194,8 @@ fn device_words(alloc: Global, text: &str, nodes: u16) -> Result<Option<Landmark
 
 // ---- a life
 
-fn life_in(alloc: Global, fields: &[&str], nodes: u16) -> Result<Option<LifeLine>, AllocError>
-    ensures found { FindsOnly (IsLife nodes) life_fields (texts_of fields.now) result }
+fn life_in(alloc: Global, fields: &[&str], nodes: u16) -> Result<Option<RehearsalLine>, AllocError>
+    ensures found { FindsOnly (MayStand (Stage.Made nodes)) line_words (codes "life" ∷ texts_of fields.now) result }
     ensures only { ReadsEach (IsLife nodes) life_fields (texts_of fields.now) result }
 {
     let [sessions, places, words, end @ ..] = fields else {
@@ -254,17 +207,20 @@ fn life_in(alloc: Global, fields: &[&str], nodes: u16) -> Result<Option<LifeLine
     let Some(places) = few_behind(alloc, places, "places=")? else {
         return Ok(None);
     };
-    let Some(words) = words_field(alloc, words, nodes)? else {
+    let Some(words) = behind(words, "words=") else {
+        return Ok(None);
+    };
+    let Some(words) = device_words(alloc, words, nodes)? else {
         return Ok(None);
     };
     match end_in(alloc, end)? {
-        Some((plan, crash)) => Ok(Some(LifeLine {
+        Some((plan, crash)) => Ok(Some(RehearsalLine::Life(LifeLine {
             sessions,
             places,
             words,
             plan,
             crash,
-        })),
+        }))),
         None => Ok(None),
     }
 }
@@ -299,17 +255,6 @@ fn few_behind(alloc: Global, field: &str, name: &str) -> Result<Option<u8>, Allo
     }
 }
 
-fn words_field(alloc: Global, field: &str, nodes: u16) -> Result<Option<LandmarkWords>, AllocError>
-    ensures found { IfRead result (λ words. (field.now ≡ codes "words=" ++ words_text words) × AreOfDevice nodes words) }
-    ensures only { (words : LandmarkWords) → AreOfDevice nodes words → field.now ≡ codes "words=" ++ words_text words
-        → ReadsSome result }
-{
-    match behind(field, "words=") {
-        Some(text) => device_words(alloc, text, nodes),
-        None => Ok(None),
-    }
-}
-
 // Which call fails, and what the crash leaves.
 fn end_in(alloc: Global, fields: &[&str]) -> Result<Option<(Plan, u64)>, AllocError>
     ensures found { IfRead result (λ p. texts_of fields.now ≡ end_words p.0 p.1) }
@@ -318,18 +263,12 @@ fn end_in(alloc: Global, fields: &[&str]) -> Result<Option<(Plan, u64)>, AllocEr
         → texts_of fields.now ≡ end_words plan crash → ReadsSome result }
 {
     match fields {
-        [crash] => match number_behind(alloc, crash, "crash=")? {
-            Some(crash) => Ok(Some((Plan::None, crash))),
-            None => Ok(None),
-        },
+        [crash] => Ok(number_behind(alloc, crash, "crash=")?.map(|crash| (Plan::None, crash))),
         [plan, crash] => {
             let Some(plan) = plan_in(alloc, plan)? else {
                 return Ok(None);
             };
-            match number_behind(alloc, crash, "crash=")? {
-                Some(crash) => Ok(Some((plan, crash))),
-                None => Ok(None),
-            }
+            Ok(number_behind(alloc, crash, "crash=")?.map(|crash| (plan, crash)))
         }
         _ => Ok(None),
     }
@@ -360,13 +299,7 @@ fn pair_in(alloc: Global, text: &str) -> Result<Option<(u64, u64)>, AllocError>
     let Some((front, behind)) = halves(text) else {
         return Ok(None);
     };
-    let Some(a) = number(alloc, front, u64::MAX)? else {
-        return Ok(None);
-    };
-    match number(alloc, behind, u64::MAX)? {
-        Some(b) => Ok(Some((a, b))),
-        None => Ok(None),
-    }
+    two_numbers(alloc, &[front, behind], (u64::MAX, u64::MAX))
 }
 
 // What stands in front of the first colon, and behind it.

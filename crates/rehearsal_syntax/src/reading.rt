@@ -40,7 +40,7 @@ fn lines_read(
         }
         let Some(line) = line_in(alloc, stage, &words)? else {
             let number = index + 1;
-            let form = form_of(stage, &words);
+            let form = form_of(stage, words[0]);
             return Ok(Err(LineRefused { number, form }));
         };
         stage = stage.behind(&line);
@@ -49,29 +49,21 @@ fn lines_read(
     Ok(Ok(lines))
 }
 
-// What a line of these words should have been.
-fn form_of(stage: Stage, words: &[&str]) -> Form {
+// What a line should have been that begins with this word.
+fn form_of(stage: Stage, name: &str) -> Form {
     match stage {
         Stage::Empty => Form::Device,
         Stage::Made(_) => Form::Life,
-        Stage::Living(_) => match words.first() {
-            Some(name) => form_named(*name),
-            None => Form::Line,
+        Stage::Living(_) => match name {
+            "life" => Form::Life,
+            "submit" => Form::Submit,
+            "look" => Form::Look,
+            "take" | "commit" | "post" => Form::Step,
+            "rebuild" => Form::Rebuild,
+            "launch" => Form::Launch,
+            "hop" => Form::Hop,
+            _ => Form::Line,
         },
-    }
-}
-
-// What a life or an event should be that begins with this word.
-fn form_named(name: &str) -> Form {
-    match name {
-        "life" => Form::Life,
-        "submit" => Form::Submit,
-        "look" => Form::Look,
-        "take" | "commit" | "post" => Form::Step,
-        "rebuild" => Form::Rebuild,
-        "launch" => Form::Launch,
-        "hop" => Form::Hop,
-        _ => Form::Line,
     }
 }
 

@@ -17,13 +17,10 @@ impl Stage {
     pub(crate) fn behind(self, line: &RehearsalLine) -> Stage
         ensures { result ≡ stage_after self line.now }
     {
-        match self {
-            Stage::Empty => match line {
-                RehearsalLine::Device { nodes } => Stage::Made(*nodes),
-                _ => Stage::Empty,
-            },
-            Stage::Made(nodes) => Stage::Living(nodes),
-            Stage::Living(nodes) => Stage::Living(nodes),
+        match (self, line) {
+            (Stage::Empty, RehearsalLine::Device { nodes }) => Stage::Made(*nodes),
+            (Stage::Made(nodes), _) => Stage::Living(nodes),
+            _ => self,
         }
     }
 }

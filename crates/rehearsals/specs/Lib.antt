@@ -1,4 +1,3 @@
-pub mod Replies
 pub mod Reports
 pub mod Asked
 pub mod Rehearsed

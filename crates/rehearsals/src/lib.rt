@@ -1,7 +1,5 @@
 //! Rehearsals that are run: the lives that a text asks for, and the lines of what they were answered.
 //!
-//! # What it is
-//!
 //! [`rehearse`] runs the lives of a rehearsal (crate `rehearsal_syntax`) on a device in memory, which it makes and formats, by one call of
 //! `lives_in_memory` of the crate `life_chain` ([`run_lives`]). Behind them comes a life that only opens. The lines are those of the report
 //! of that call.
@@ -20,18 +18,15 @@
 //!
 //! No text is answered where memory runs out, or where a device can't have so many nodes; the latter comes only then (`nodes`).
 //!
-//! `docs/FORMATS.md`, "A rehearsal", has each line. Its bytes are its type's `Display`, defined once in specs/Replies.antt or
-//! specs/Reports.antt.
+//! `docs/FORMATS.md`, "A rehearsal", has each line. Its bytes are defined once, in specs/Reports.antt.
 #![tactic(auto)]
 
 mod asked;
-mod life_lines;
 mod lines;
 mod report;
 mod run;
 
 pub use asked::{Rehearsal, lives_of};
-pub use life_lines::{CrashLine, NotOpenedLine, OpenedLine};
-pub use lines::ReplyLine;
+pub use lines::{NotOpenedLine, ReplyLine};
 pub use report::report_text;
 pub use run::{RehearseRefused, formatted_device, rehearse, run_lives};

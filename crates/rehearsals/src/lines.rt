@@ -1,7 +1,8 @@
-//! The words of a reply.
-ghost use Rattle.std.specs.Prelude.{◌≡◌, Some};
-ghost use Rattle.rehearsals.specs.Replies.{desk_words, outcome_words, route_words, submit_words, words_of};
+//! Replies and refused openings, as they are shown.
+ghost use Rattle.std.specs.Prelude.{Some};
+ghost use Rattle.rehearsals.specs.Reports.{not_opened_text, words_of};
 
+use checkpoint::OpenRefused;
 use command_output::{AcceptedLine, RefusedLine};
 use event_model::Reply;
 use forwarders::Refused as RouteRefused;
@@ -21,16 +22,37 @@ impl fmt::Display for ReplyLine {
     fn fmt<W: fmt::Write>(&self, f: &mut fmt::Formatter<W>) -> fmt::Result {
         match self.reply {
             Reply::Submitted { ticket } => write!(f, "submitted ticket={ticket}"),
-            Reply::NotSubmitted(refused) => write!(f, "{}", submit_refused(refused)),
-            Reply::Looked(outcome) => write!(f, "{}", OutcomeLine { outcome }),
+            Reply::NotSubmitted(SubmitRefused::BoardShut) => write!(f, "refused board shut"),
+            Reply::NotSubmitted(SubmitRefused::Busy) => write!(f, "refused busy"),
+            Reply::NotSubmitted(SubmitRefused::AlreadyIn) => write!(f, "refused already in"),
+            Reply::NotSubmitted(SubmitRefused::OldTicket) => write!(f, "refused old ticket"),
+            Reply::NotSubmitted(SubmitRefused::Worn) => write!(f, "refused worn"),
+            Reply::NotSubmitted(SubmitRefused::QueueFull) => write!(f, "refused queue full"),
+            Reply::Looked(Outcome::Nothing) => write!(f, "looked nothing"),
+            Reply::Looked(Outcome::Waiting) => write!(f, "looked pending"),
+            Reply::Looked(Outcome::Accepted { count, .. }) => {
+                write!(f, "looked {}", AcceptedLine { count })
+            }
+            Reply::Looked(Outcome::Refused { op, code, .. }) => {
+                write!(f, "looked {}", RefusedLine { op, code })
+            }
+            Reply::Looked(Outcome::Down) => write!(f, "looked down"),
             Reply::Taken { session, ticket } => {
                 write!(f, "taken session={session} ticket={ticket}")
             }
             Reply::Committed { accepted } => write!(f, "committed accepted={accepted}"),
-            Reply::NotCommitted(refused) => write!(f, "{}", not_committed(refused)),
+            Reply::NotCommitted(DeskRefused::Device) => write!(f, "not committed device"),
+            Reply::NotCommitted(DeskRefused::Down) => write!(f, "not committed down"),
+            Reply::NotCommitted(DeskRefused::Memory) => write!(f, "not committed memory"),
+            Reply::NotCommitted(DeskRefused::Worn) => write!(f, "not committed worn"),
             Reply::Rebuilt { generation } => write!(f, "rebuilt generation={generation}"),
             Reply::Launched { packet } => write!(f, "launched packet={packet}"),
-            Reply::NotRouted(refused) => write!(f, "{}", not_routed(refused)),
+            Reply::NotRouted(RouteRefused::BoardShut) => write!(f, "board shut"),
+            Reply::NotRouted(RouteRefused::GenerationGone) => write!(f, "generation gone"),
+            Reply::NotRouted(RouteRefused::NoNode) => write!(f, "no node"),
+            Reply::NotRouted(RouteRefused::Unreachable) => write!(f, "unreachable"),
+            Reply::NotRouted(RouteRefused::Stray) => write!(f, "stray packet"),
+            Reply::NotRouted(RouteRefused::Spent) => write!(f, "no hop left"),
             Reply::Forwarded { port, next } => write!(f, "forwarded port={port} next={next}"),
             Reply::Posted => write!(f, "posted"),
             Reply::NotRebuilt => write!(f, "not rebuilt"),
@@ -42,65 +64,22 @@ impl fmt::Display for ReplyLine {
     }
 }
 
-// What a session sees of its last change.
+/// A life that couldn't open, and why: `not opened device`.
 #[derive(Drop)]
-struct OutcomeLine {
-    outcome: Outcome,
+pub struct NotOpenedLine {
+    pub refused: OpenRefused,
 }
 
-impl fmt::Display for OutcomeLine {
-    ghost output = { λ x. Some (outcome_words x.outcome) };
+impl fmt::Display for NotOpenedLine {
+    ghost output = { λ x. Some (not_opened_text x.refused) };
 
     fn fmt<W: fmt::Write>(&self, f: &mut fmt::Formatter<W>) -> fmt::Result {
-        match self.outcome {
-            Outcome::Nothing => write!(f, "looked nothing"),
-            Outcome::Waiting => write!(f, "looked pending"),
-            Outcome::Accepted { ticket: _, count } => {
-                write!(f, "looked {}", AcceptedLine { count })
-            }
-            Outcome::Refused {
-                ticket: _,
-                op,
-                code,
-            } => write!(f, "looked {}", RefusedLine { op, code }),
-            Outcome::Down => write!(f, "looked down"),
+        match self.refused {
+            OpenRefused::NotFormatted => write!(f, "not opened not formatted"),
+            OpenRefused::BadVersion => write!(f, "not opened layout not known"),
+            OpenRefused::Damaged => write!(f, "not opened damaged"),
+            OpenRefused::Device => write!(f, "not opened device"),
+            OpenRefused::Memory => write!(f, "not opened memory"),
         }
-    }
-}
-
-fn submit_refused(refused: SubmitRefused) -> &'static str
-    ensures { result.now ≡ submit_words refused }
-{
-    match refused {
-        SubmitRefused::BoardShut => "refused board shut",
-        SubmitRefused::Busy => "refused busy",
-        SubmitRefused::AlreadyIn => "refused already in",
-        SubmitRefused::OldTicket => "refused old ticket",
-        SubmitRefused::Worn => "refused worn",
-        SubmitRefused::QueueFull => "refused queue full",
-    }
-}
-
-fn not_committed(refused: DeskRefused) -> &'static str
-    ensures { result.now ≡ desk_words refused }
-{
-    match refused {
-        DeskRefused::Device => "not committed device",
-        DeskRefused::Down => "not committed down",
-        DeskRefused::Memory => "not committed memory",
-        DeskRefused::Worn => "not committed worn",
-    }
-}
-
-fn not_routed(refused: RouteRefused) -> &'static str
-    ensures { result.now ≡ route_words refused }
-{
-    match refused {
-        RouteRefused::BoardShut => "board shut",
-        RouteRefused::GenerationGone => "generation gone",
-        RouteRefused::NoNode => "no node",
-        RouteRefused::Unreachable => "unreachable",
-        RouteRefused::Stray => "stray packet",
-        RouteRefused::Spent => "no hop left",
     }
 }

@@ -1,12 +1,10 @@
 //! The lines of a report.
-ghost use Rattle.std.specs.Prelude.{◌≡◌, ◌++◌, IfOk, OnOk};
+ghost use Rattle.std.specs.Prelude.{◌≡◌, ◌++◌, [], IfOk, OnOk, cond};
 ghost use Rattle.std.specs.List.{flat_map};
 ghost use Rattle.std.specs.String.{string_bytes};
-ghost use Rattle.command_output.specs.Lines.{line};
-ghost use Rattle.rehearsals.specs.Reports.{crash_text, held_tickets, not_opened, opened_line, reply_line, report_text, whole_life};
+ghost use Rattle.rehearsals.specs.Reports.{answered_lines, crash_line, crashed_line, found_line, held_text, held_tickets, life_lines, not_opened, opened_line, reply_line, report_text};
 
-use crate::life_lines::{CrashLine, NotOpenedLine, OpenedLine};
-use crate::lines::ReplyLine;
+use crate::lines::{NotOpenedLine, ReplyLine};
 use checkpoint::OpenRefused;
 use event_model::Reply;
 use life_chain::{LifeReport, LivesReport};
@@ -18,79 +16,95 @@ pub fn report_text(alloc: Global, whole: usize, report: &LivesReport) -> Result<
 {
     let mut text = String::new(alloc);
     let told = whole.min(report.lives.len());
-    push_lives(alloc, &mut text, &report.lives[..told])?;
-    push_openings(alloc, &mut text, &report.lives[told..])?;
+    push_lives(alloc, &mut text, true, &report.lives[..told])?;
+    push_lives(alloc, &mut text, false, &report.lives[told..])?;
     push_refused(&mut text, report.refused)?;
     Ok(text)
 }
 
-// All lines of these lives.
-fn push_lives(alloc: Global, text: &mut String, lives: &[LifeReport]) -> Result<(), AllocError>
-    ensures { OnOk result (string_bytes text.new ≡ string_bytes text.old ++ flat_map whole_life lives.now) }
+// The lines of these lives, all or what they opened to.
+fn push_lives(
+    alloc: Global,
+    text: &mut String,
+    is_whole: bool,
+    lives: &[LifeReport],
+) -> Result<(), AllocError>
+    ensures { OnOk result (string_bytes text.new ≡ string_bytes text.old ++ flat_map (life_lines is_whole) lives.now) }
 {
     for life in lives {
-        push_life(alloc, text, life)?;
+        push_life(alloc, text, is_whole, life)?;
     }
     Ok(())
 }
 
-fn push_life(alloc: Global, text: &mut String, life: &LifeReport) -> Result<(), AllocError>
-    ensures { OnOk result (string_bytes text.new ≡ string_bytes text.old ++ whole_life life.now) }
+fn push_life(
+    alloc: Global,
+    text: &mut String,
+    is_whole: bool,
+    life: &LifeReport,
+) -> Result<(), AllocError>
+    ensures { OnOk result (string_bytes text.new ≡ string_bytes text.old ++ life_lines is_whole life.now) }
 {
     push_opened(alloc, text, life)?;
-    push_reply(text, life.rebuilt)?;
-    push_replies(text, &life.replies)?;
-    push_crash(text, life)
+    push_rest(text, is_whole, life)
 }
 
-// What stood when its device crashed.
-fn push_crash(text: &mut String, life: &LifeReport) -> Result<(), AllocError>
-    ensures { OnOk result (string_bytes text.new ≡ string_bytes text.old ++ line (crash_text life.now)) }
+// What it was answered, where all is told of it.
+fn push_rest(text: &mut String, is_whole: bool, life: &LifeReport) -> Result<(), AllocError>
+    ensures { OnOk result (string_bytes text.new ≡ string_bytes text.old ++ cond is_whole (answered_lines life.now) []) }
 {
-    let crash = CrashLine {
-        taken: life.stored.taken,
-        settled: life.stored.done,
-        postings: life.stored.postings.len(),
-    };
-    writeln!(text, "{crash}")?;
-    Ok(())
-}
-
-// What these lives opened to.
-fn push_openings(alloc: Global, text: &mut String, lives: &[LifeReport]) -> Result<(), AllocError>
-    ensures { OnOk result (string_bytes text.new ≡ string_bytes text.old ++ flat_map opened_line lives.now) }
-{
-    for life in lives {
-        push_opened(alloc, text, life)?;
+    if is_whole {
+        push_answered(text, life)?;
     }
     Ok(())
 }
 
+// What it opened to.
 fn push_opened(alloc: Global, text: &mut String, life: &LifeReport) -> Result<(), AllocError>
     ensures { OnOk result (string_bytes text.new ≡ string_bytes text.old ++ opened_line life.now) }
 {
     let held = tickets_held(alloc, &life.tickets)?;
-    let opened = OpenedLine {
-        count: life.count,
-        edges: life.graph.edges(),
-        held: &held,
-    };
-    writeln!(text, "{opened}")?;
+    push_found(text, life.count, life.graph.edges(), held.len(), &held)?;
     Ok(())
+}
+
+fn push_found(
+    text: &mut String,
+    count: u64,
+    edges: usize,
+    tickets: usize,
+    held: &[(usize, u64)],
+) -> Result<(), AllocError>
+    ensures { OnOk result (string_bytes text.new ≡ string_bytes text.old ++ found_line count edges tickets held.now) }
+{
+    write!(text, "opened count={count} edges={edges} tickets={tickets}")?;
+    push_held(text, held)?;
+    writeln!(text, "")
 }
 
 // The sessions that have a last ticket, each with it.
 fn tickets_held(alloc: Global, tickets: &[u64]) -> Result<Vec<(usize, u64)>, AllocError>
     ensures { IfOk result (λ held. held.items ≡ held_tickets tickets.now) }
 {
-    let mut held = Vec::new(alloc);
-    for session in 0..tickets.len() {
-        let ticket = tickets[session];
-        if ticket != 0 {
-            held.push((session, ticket))?;
-        }
+    let each = tickets.iter().copied().enumerate();
+    each.filter(|(_, ticket)| *ticket != 0).collect(alloc)
+}
+
+fn push_held(text: &mut String, held: &[(usize, u64)]) -> Result<(), AllocError>
+    ensures { OnOk result (string_bytes text.new ≡ string_bytes text.old ++ flat_map held_text held.now) }
+{
+    for (session, ticket) in held {
+        write!(text, " {session}:{ticket}")?;
     }
-    Ok(held)
+    Ok(())
+}
+
+fn push_answered(text: &mut String, life: &LifeReport) -> Result<(), AllocError>
+    ensures { OnOk result (string_bytes text.new ≡ string_bytes text.old ++ answered_lines life.now) }
+{
+    push_reply(text, life.rebuilt)?;
+    push_replies(text, &life.replies)?;
+    push_crash(text, life)
 }
 
 fn push_replies(text: &mut String, replies: &[Reply]) -> Result<(), AllocError>
@@ -105,7 +119,27 @@ fn push_replies(text: &mut String, replies: &[Reply]) -> Result<(), AllocError>
 fn push_reply(text: &mut String, reply: Reply) -> Result<(), AllocError>
     ensures { OnOk result (string_bytes text.new ≡ string_bytes text.old ++ reply_line reply) }
 {
-    writeln!(text, "{}", ReplyLine { reply })?;
+    writeln!(text, "{}", ReplyLine { reply })
+}
+
+// What stood when its device crashed.
+fn push_crash(text: &mut String, life: &LifeReport) -> Result<(), AllocError>
+    ensures { OnOk result (string_bytes text.new ≡ string_bytes text.old ++ crash_line life.now) }
+{
+    let postings = life.stored.postings.len();
+    push_crashed(text, life.stored.taken, life.stored.done, postings)?;
+    Ok(())
+}
+
+fn push_crashed(
+    text: &mut String,
+    taken: usize,
+    done: usize,
+    posted: usize,
+) -> Result<(), AllocError>
+    ensures { OnOk result (string_bytes text.new ≡ string_bytes text.old ++ crashed_line taken done posted) }
+{
+    writeln!(text, "crash taken={taken} settled={done} postings={posted}")?;
     Ok(())
 }
 
