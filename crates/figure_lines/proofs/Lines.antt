@@ -3,7 +3,7 @@ use Rattle.std.proofs.Common.{◌≡◌, ◌<◌, ◌≤◌, ◌+◌, ◌∙◌,
 use Rattle.std.proofs.lemmas.Grind.{take_at_read}
 use Rattle.std.proofs.lemmas.List.{take_all}
 use Rattle.std.specs.Prelude.{Some}
-use Rattle.serde.specs.Event.{Log, Logs, WritesEach, seq_begins, seq_ends}
+use Rattle.serde.specs.Event.{Log, Logs, WritesEach, WritesSeq, seq_begins, seq_ends}
 use Rattle.serde_json.specs.Data.{Data, array, item}
 use Rattle.serde_json.specs.Events.{SendsItems, SendsValue, items_len}
 use Rattle.serde_json.specs.Written.{has_float}
@@ -40,10 +40,23 @@ items_of_map f g [] = refl
 items_of_map f g (x ∷ xs) = ap (item (f (g x))) (items_of_map f g xs)
 
 -- so it is of the whole array
+pub list_sent : {A : Type 0} (f : A → Data) (xs : List A) (a d : Log) → WritesSeq (λ x. SendsValue (f x)) xs a d → SendsValue (array (items_by f xs)) a d
+list_sent f xs a d sent = (sent.0, subst (λ n. Logs a sent.0 (seq_begins (Some n))) (sym (as_many f xs)) sent.2, each_item f xs sent.0 sent.1 d sent.3 sent.4)
+
+-- .. of which so many were sent
 pub array_sent : {A : Type 0} (f : A → Data) (xs : List A) (n : ℕ) (a b c d : Log) → length xs ≤ n → Logs a b (seq_begins (Some (length xs))) → WritesEach (λ x. SendsValue (f x)) (take n xs) b c → Logs c d seq_ends → SendsValue (array (items_by f xs)) a d
 array_sent {A = A} f xs n a b c d all begins taken ends =
-    let each = subst (λ (ys : List A). WritesEach (λ x. SendsValue (f x)) ys b c) (take_all n xs all) taken in
-    (b, subst (λ n. Logs a b (seq_begins (Some n))) (sym (as_many f xs)) begins, each_item f xs b c d each ends)
+    list_sent f xs a d (b, c, begins, subst (λ (ys : List A). WritesEach (λ x. SendsValue (f x)) ys b c) (take_all n xs all) taken, ends)
+
+-- so the line of a list without a float is that of an array
+pub line_of_list : {A : Type 0} (f : A → Data) (xs : List A) (line : List ℕ) → IsLineOf (WritesSeq (λ x. SendsValue (f x)) xs) line → has_float (array (items_by f xs)) ≡ false → line ≡ json_line (array (items_by f xs))
+line_of_list f xs line is whole = line_of_value (array (items_by f xs)) line (record {
+  log = is.log;
+  text = is.text;
+  sent = list_sent f xs (Some []) is.log is.sent;
+  is_text = is.is_text;
+  ends = is.ends;
+}) whole
 
 -- a key and its value were sent, and what stands behind them
 pub member_sent : {Key Rest : Log → Type 0} {Value : Log → Log → Type 0} (b : Log) → (named : Log) × Key named × Value named b → Rest b → (named mid : Log) × Key named × Value named mid × Rest mid

@@ -6,9 +6,7 @@ use Rattle.device_info.specs.declared.info.DeviceInfo.{DeviceInfo}
 use Rattle.figure_lines.specs.Figures.{Said, figure_data, figures_data}
 use Rattle.figure_lines.specs.Info.{info_data, ticket_data}
 use Rattle.figure_lines.specs.Json.{items_by}
-use Rattle.figure_lines.specs.NodeRows.{node_data, nodes_data}
 use Rattle.figure_lines.specs.Times.{time_data, times_data}
-use Rattle.figure_lines.specs.declared.nodes.NodeRow.{NodeRow}
 use Rattle.figure_lines.specs.declared.times.Machine.{Machine}
 use Rattle.figure_lines.specs.declared.times.TimeRow.{TimeRow}
 
@@ -22,9 +20,6 @@ no_float_in_info info = ap (λ b. b || false) (no_float_by ticket_data (λ one. 
 
 pub no_float_in_figures : (all : List Said) → has_float (figures_data all) ≡ false
 no_float_in_figures all = no_float_by figure_data (λ f. refl) all
-
-pub no_float_in_nodes : (rows : List NodeRow) → has_float (nodes_data rows) ≡ false
-no_float_in_nodes rows = no_float_by node_data (λ row. refl) rows
 
 pub no_float_in_times : (machine : Machine) (rows : List TimeRow) → has_float (times_data machine rows) ≡ false
 no_float_in_times machine rows = ap (λ b. b || false) (no_float_by time_data (λ row. refl) rows)

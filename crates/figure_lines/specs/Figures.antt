@@ -41,6 +41,10 @@ thousandths_or_none (Some value) = thousandths_text value
 abbrev pub thousandths : List ℕ → Option ℕ → List ℕ → Said
 thousandths name value unit = said_as name (thousandths_or_none value) unit
 
+-- a mean and the greatest, under names that begin so
+abbrev pub mean_and_greatest : List ℕ → Option ℕ → ℕ → List ℕ → List Said
+mean_and_greatest name mean greatest unit = thousandths (name ++ codes "_mean") mean unit ∷ whole (name ++ codes "_greatest") greatest unit ∷ []
+
 -- ---- lines
 
 -- `name=value unit=unit`, and the end of the line

@@ -7,7 +7,7 @@ use Rattle.statistics.specs.Decimals.{quotient}
 use Rattle.statistics.specs.Spreads.{IsSpread}
 use Rattle.statistics.specs.declared.spread.Cell.{Cell}
 use Rattle.statistics.specs.declared.spread.Spread.{Spread}
-use Rattle.figure_lines.specs.Figures.{Said, thousandths, whole}
+use Rattle.figure_lines.specs.Figures.{Said, mean_and_greatest, whole}
 
 -- a number that is kept at the greatest u64
 abbrev pub kept : ℕ → ℕ
@@ -30,7 +30,7 @@ cell_figure name cell = whole (cell_name name cell) cell.count (codes "nodes")
 -- the mean of sizes, the greatest, and how many lie in each cell
 abbrev pub spread_figures : List ℕ → Spread → List ℕ → List Said
 spread_figures name spread unit =
-    thousandths (name ++ codes "_mean") (share spread.sum spread.count) unit ∷ whole (name ++ codes "_greatest") spread.greatest unit ∷ map (cell_figure name) spread.cells.items
+    mean_and_greatest name (share spread.sum spread.count) spread.greatest unit ++ map (cell_figure name) spread.cells.items
 
 -- ---- bytes
 
@@ -38,13 +38,13 @@ spread_figures name spread unit =
 abbrev pub table_sizes : Parts → List ℕ
 table_sizes p = each_node (λ x. kept (table_bytes p x)) p.nodes
 
+-- the mean of numbers, and the greatest
+abbrev pub pair_figures : List ℕ → List ℕ → List ℕ → List Said
+pair_figures name numbers unit = mean_and_greatest name (share (kept (sum numbers)) (length numbers)) (fold max 0 numbers) unit
+
 -- the mean of lengths, the greatest, and all of them together
 abbrev pub length_figures : List ℕ → List Said
-length_figures lengths =
-    thousandths (codes "table_mean") (share (kept (sum lengths)) (length lengths)) (codes "bytes")
-    ∷ whole (codes "table_greatest") (fold max 0 lengths) (codes "bytes")
-    ∷ whole (codes "tables_all") (kept (sum lengths)) (codes "bytes")
-    ∷ []
+length_figures lengths = pair_figures (codes "table") lengths (codes "bytes") ++ whole (codes "tables_all") (kept (sum lengths)) (codes "bytes") ∷ []
 
 -- the same of tables that have a port of two bytes for each other node
 abbrev pub full_figures : ℕ → List Said

@@ -1,19 +1,13 @@
 -- A few figures of a scheme's tables, to be compared with those of another one.
-use Rattle.std.specs.Prelude.{ℕ, List, [], ◌∷◌, ◌++◌, codes, count_by, length, max, sum}
-use Rattle.std.specs.List.{fold}
+use Rattle.std.specs.Prelude.{ℕ, List, [], ◌∷◌, ◌++◌, codes, count_by}
 use Rattle.schemes.specs.declared.parts.Parts.{Parts}
 use Rattle.scheme_figures.specs.Sizes.{directory_sizes, entry_sizes}
-use Rattle.figure_lines.specs.Figures.{Said, thousandths, whole}
-use Rattle.figure_lines.specs.Schemes.{kept, share, table_sizes}
+use Rattle.figure_lines.specs.Figures.{Said, whole}
+use Rattle.figure_lines.specs.Schemes.{pair_figures, table_sizes}
 
 -- how many landmarks there are
 abbrev pub landmark_figures : List ℕ → Parts → List Said
 landmark_figures name p = whole (name ++ codes "_landmarks") (count_by (λ flag. flag) p.landmarks.items) (codes "nodes") ∷ []
-
--- the mean of numbers, and the greatest
-abbrev pub pair_figures : List ℕ → List ℕ → List ℕ → List Said
-pair_figures name numbers unit =
-    thousandths (name ++ codes "_mean") (share (kept (sum numbers)) (length numbers)) unit ∷ whole (name ++ codes "_greatest") (fold max 0 numbers) unit ∷ []
 
 -- the landmarks, and the mean and the greatest of entries, of directories and of bytes, each under a name that begins so
 abbrev pub table_figures : List ℕ → Parts → List Said

@@ -1,5 +1,5 @@
 //! A network in the language of graphviz.
-ghost use Rattle.std.specs.Prelude.{◌≡◌, ◌++◌, IfOk, OnOk, decimal};
+ghost use Rattle.std.specs.Prelude.{◌≡◌, ◌++◌, IfOk, OnOk};
 ghost use Rattle.std.specs.List.{flat_map};
 ghost use Rattle.figure_lines.specs.Networks.{colour_text, dot_text, edge_line, escaped_byte, label_of, mark_text, names_of, node_line, node_lines, quoted, shape_of};
 
@@ -96,9 +96,8 @@ fn push_shape(text: &mut Vec<u8>, node: usize, mark: Mark) -> Result<(), AllocEr
 fn push_colour(alloc: Global, text: &mut Vec<u8>, colour: u8) -> Result<(), AllocError>
     ensures { OnOk result (text.new.items ≡ text.old.items ++ colour_text colour) }
 {
-    push(text, "style=filled, fillcolor=\"/set312/")?;
-    push_number(alloc, text, colour as u32)?;
-    push(text, "\", ")
+    let style = format!(in alloc; "style=filled, fillcolor=\"/set312/{colour}\", ")?;
+    push(text, style.as_str())
 }
 
 fn push_edges(
@@ -127,16 +126,8 @@ fn push_edge(
     push_label(alloc, text, names, edge.a as usize)?;
     push(text, " -- ")?;
     push_label(alloc, text, names, edge.b as usize)?;
-    push(text, " [label=")?;
-    push_number(alloc, text, edge.weight)?;
-    push(text, "];\n")
-}
-
-fn push_number(alloc: Global, text: &mut Vec<u8>, number: u32) -> Result<(), AllocError>
-    ensures { OnOk result (text.new.items ≡ text.old.items ++ decimal number) }
-{
-    let digits = format!(in alloc; "{number}")?;
-    push(text, digits.as_str())
+    let weight = format!(in alloc; " [label={}];\n", edge.weight)?;
+    push(text, weight.as_str())
 }
 
 // What a node is called, between quotation marks.

@@ -1,7 +1,7 @@
 //! A figure.
 ghost use Rattle.std.specs.Prelude.{◌≡◌, ◌∷◌, [], IfOk, OnOk};
 ghost use Rattle.std.specs.String.{string_bytes};
-ghost use Rattle.figure_lines.specs.Figures.{ArePut, said, thousandths as said_thousandths, thousandths_or_none, whole as said_whole};
+ghost use Rattle.figure_lines.specs.Figures.{ArePut, mean_and_greatest, said, thousandths as said_thousandths, thousandths_or_none, whole as said_whole};
 
 use serde::{Described, Serialize, Serializer};
 use statistics::Thousandths;
@@ -35,7 +35,6 @@ impl Serialize for Figure {
     }
 }
 
-/// A figure of a whole number.
 fn whole(alloc: Global, name: &str, value: u64, unit: &'static str) -> Result<Figure, AllocError>
     ensures { IfOk result (λ figure. said figure ≡ said_whole name.now value unit.entry.now) }
 {
@@ -46,7 +45,6 @@ fn whole(alloc: Global, name: &str, value: u64, unit: &'static str) -> Result<Fi
     })
 }
 
-/// A figure of thousandths, or of nothing.
 fn thousandths(
     alloc: Global,
     name: &str,
@@ -72,30 +70,62 @@ pub(crate) fn thousandths_text(alloc: Global, value: Option<u64>) -> Result<Stri
     }
 }
 
-/// Puts a figure of a whole number behind the others.
-pub(crate) fn push_whole(
-    alloc: Global,
-    figures: &mut Vec<Figure>,
-    name: &str,
-    value: u64,
-    unit: &'static str,
-) -> Result<(), AllocError>
-    ensures { OnOk result (ArePut figures.old figures.new (said_whole name.now value unit.entry.now ∷ [])) }
-{
-    figures.push(whole(alloc, name, value, unit)?)?;
-    Ok(())
+/// Figures, one behind the other.
+#[derive(Drop)]
+pub(crate) struct Figures {
+    pub(crate) alloc: Global,
+    pub(crate) all: Vec<Figure>,
 }
 
-/// The same of thousandths.
-pub(crate) fn push_thousandths(
-    alloc: Global,
-    figures: &mut Vec<Figure>,
-    name: &str,
-    value: Option<u64>,
-    unit: &'static str,
-) -> Result<(), AllocError>
-    ensures { OnOk result (ArePut figures.old figures.new (said_thousandths name.now value unit.entry.now ∷ [])) }
-{
-    figures.push(thousandths(alloc, name, value, unit)?)?;
-    Ok(())
+impl Figures {
+    pub(crate) fn new(alloc: Global) -> Figures
+        ensures { result.all.items ≡ [] }
+    {
+        Figures {
+            alloc,
+            all: Vec::new(alloc),
+        }
+    }
+
+    /// A figure of a whole number.
+    pub(crate) fn whole(
+        &mut self,
+        name: &str,
+        value: u64,
+        unit: &'static str,
+    ) -> Result<(), AllocError>
+        ensures { OnOk result (ArePut self.old.all self.new.all (said_whole name.now value unit.entry.now ∷ [])) }
+    {
+        self.all.push(whole(self.alloc, name, value, unit)?)?;
+        Ok(())
+    }
+
+    /// A figure of thousandths, or of nothing.
+    pub(crate) fn thousandths(
+        &mut self,
+        name: &str,
+        value: Option<u64>,
+        unit: &'static str,
+    ) -> Result<(), AllocError>
+        ensures { OnOk result (ArePut self.old.all self.new.all (said_thousandths name.now value unit.entry.now ∷ [])) }
+    {
+        self.all.push(thousandths(self.alloc, name, value, unit)?)?;
+        Ok(())
+    }
+
+    /// A mean and the greatest, under names that begin so.
+    pub(crate) fn mean_and_greatest(
+        &mut self,
+        name: &str,
+        mean: Option<u64>,
+        greatest: u64,
+        unit: &'static str,
+    ) -> Result<(), AllocError>
+        ensures { OnOk result (ArePut self.old.all self.new.all (mean_and_greatest name.now mean greatest unit.entry.now)) }
+    {
+        let mean_name = format!(in self.alloc; "{name}_mean")?;
+        self.thousandths(mean_name.as_str(), mean, unit)?;
+        let greatest_name = format!(in self.alloc; "{name}_greatest")?;
+        self.whole(greatest_name.as_str(), greatest, unit)
+    }
 }

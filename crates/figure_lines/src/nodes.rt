@@ -156,33 +156,9 @@ fn push_fields(text: &mut String, row: &NodeRow) -> Result<(), AllocError>
     )
 }
 
-// A list of rows.
-#[derive(Clone, Copy)]
-struct RowList<'a> {
-    rows: &'a [NodeRow],
-}
-
-impl<'a> Described for RowList<'a> {
-    ghost use Rattle.serde_json.specs.Events.{SendsValue};
-    ghost use Rattle.figure_lines.specs.NodeRows.{nodes_data};
-
-    ghost writes = { λ list. SendsValue (nodes_data list.rows.now) };
-}
-
-impl<'a> Serialize for RowList<'a> {
-    fn serialize<S: Serializer>(&self, out: &mut S) -> Result<(), S::Error> {
-        out.begin_seq(Some(self.rows.len()))?;
-        for row in self.rows {
-            row.serialize(out)?;
-        }
-        out.end_seq()
-    }
-}
-
 /// The rows as a line of JSON: an array with an object for each.
 pub fn nodes_json(alloc: Global, rows: &[NodeRow]) -> Result<String, AllocError>
     ensures { IfOk result (λ text. string_bytes text ≡ json_line (nodes_data rows.now)) }
 {
-    let list = RowList { rows };
-    json_text(alloc, &list)
+    json_text(alloc, &rows)
 }

@@ -1,10 +1,10 @@
 //! The figures of a scheme's tables.
 ghost use Rattle.std.specs.Prelude.{◌≡◌, ◌∷◌, [], IfOk, OnOk, fold, map, max};
 ghost use Rattle.figure_lines.specs.Figures.{ArePut, said};
-ghost use Rattle.figure_lines.specs.Schemes.{AreSchemeFigures, cell_figure, cell_name, full_figures, length_figures, node_figures, share, spread_figures};
+ghost use Rattle.figure_lines.specs.Schemes.{AreSchemeFigures, cell_figure, cell_name, full_figures, length_figures, node_figures, pair_figures, share, spread_figures};
 ghost use Rattle.std.specs.String.{string_bytes};
 
-use crate::figure::{Figure, push_thousandths, push_whole};
+use crate::figure::{Figure, Figures};
 use scheme_figures::{directory_lengths, entry_counts, full_length, landmark_count, table_lengths};
 use schemes::Scheme;
 use statistics::{Cell, Spread, ratio, spread_of, sum_of};
@@ -15,35 +15,23 @@ use std::alloc::{AllocError, Global};
 pub fn scheme_figures_of(alloc: Global, scheme: &Scheme) -> Result<Vec<Figure>, AllocError>
     ensures { IfOk result (λ figures. AreSchemeFigures scheme.now (map said figures.items)) }
 {
-    let mut figures = Vec::new(alloc);
-    push_nodes(alloc, &mut figures, scheme)?;
+    let mut figures = Figures::new(alloc);
+    push_nodes(&mut figures, scheme)?;
     let entries = spread_of(alloc, &entry_counts(alloc, scheme)?)?;
-    push_spread(alloc, &mut figures, "entries", &entries, "entries")?;
+    push_spread(&mut figures, "entries", &entries, "entries")?;
     let members = spread_of(alloc, &directory_lengths(alloc, scheme)?)?;
-    push_spread(alloc, &mut figures, "directory", &members, "members")?;
-    push_lengths(alloc, &mut figures, &table_lengths(alloc, scheme)?)?;
-    push_full(alloc, &mut figures, scheme.parts().nodes)?;
-    Ok(figures)
+    push_spread(&mut figures, "directory", &members, "members")?;
+    push_lengths(&mut figures, &table_lengths(alloc, scheme)?)?;
+    push_full(&mut figures, scheme.parts().nodes)?;
+    Ok(figures.all)
 }
 
 // How many nodes and landmarks there are.
-fn push_nodes(alloc: Global, figures: &mut Vec<Figure>, scheme: &Scheme) -> Result<(), AllocError>
-    ensures { OnOk result (ArePut figures.old figures.new (node_figures scheme.now)) }
+fn push_nodes(figures: &mut Figures, scheme: &Scheme) -> Result<(), AllocError>
+    ensures { OnOk result (ArePut figures.old.all figures.new.all (node_figures scheme.now)) }
 {
-    push_whole(
-        alloc,
-        figures,
-        "nodes",
-        scheme.parts().nodes as u64,
-        "nodes",
-    )?;
-    push_whole(
-        alloc,
-        figures,
-        "landmarks",
-        landmark_count(scheme) as u64,
-        "nodes",
-    )
+    figures.whole("nodes", scheme.parts().nodes as u64, "nodes")?;
+    figures.whole("landmarks", landmark_count(scheme) as u64, "nodes")
 }
 
 /// A part of so many in thousandths, none where there are none.
@@ -58,48 +46,27 @@ pub(crate) fn share_of(part: u64, count: usize) -> Option<u64>
 }
 
 fn push_spread(
-    alloc: Global,
-    figures: &mut Vec<Figure>,
+    figures: &mut Figures,
     name: &str,
     spread: &Spread,
     unit: &'static str,
 ) -> Result<(), AllocError>
-    ensures { OnOk result (ArePut figures.old figures.new (spread_figures name.now spread.now unit.entry.now)) }
+    ensures { OnOk result (ArePut figures.old.all figures.new.all (spread_figures name.now spread.now unit.entry.now)) }
 {
-    let mean_name = format!(in alloc; "{name}_mean")?;
     let mean = share_of(spread.sum, spread.count);
-    push_thousandths(alloc, figures, mean_name.as_str(), mean, unit)?;
-    let greatest_name = format!(in alloc; "{name}_greatest")?;
-    push_whole(
-        alloc,
-        figures,
-        greatest_name.as_str(),
-        spread.greatest as u64,
-        unit,
-    )?;
+    figures.mean_and_greatest(name, mean, spread.greatest as u64, unit)?;
     for cell in spread.cells.iter() {
-        push_cell(alloc, figures, name, *cell)?;
+        push_cell(figures, name, *cell)?;
     }
     Ok(())
 }
 
 // How many nodes have a size in a cell.
-fn push_cell(
-    alloc: Global,
-    figures: &mut Vec<Figure>,
-    name: &str,
-    cell: Cell,
-) -> Result<(), AllocError>
-    ensures { OnOk result (ArePut figures.old figures.new (cell_figure name.now cell ∷ [])) }
+fn push_cell(figures: &mut Figures, name: &str, cell: Cell) -> Result<(), AllocError>
+    ensures { OnOk result (ArePut figures.old.all figures.new.all (cell_figure name.now cell ∷ [])) }
 {
-    let cell_name = name_of(alloc, name, cell)?;
-    push_whole(
-        alloc,
-        figures,
-        cell_name.as_str(),
-        cell.count as u64,
-        "nodes",
-    )
+    let cell_name = name_of(figures.alloc, name, cell)?;
+    figures.whole(cell_name.as_str(), cell.count as u64, "nodes")
 }
 
 // What a cell is called.
@@ -112,25 +79,29 @@ fn name_of(alloc: Global, name: &str, cell: Cell) -> Result<String, AllocError>
     format!(in alloc; "{name}_of_{}_to_{}", cell.low, cell.high)
 }
 
-// How many bytes the tables take.
-fn push_lengths(alloc: Global, figures: &mut Vec<Figure>, lengths: &[u64]) -> Result<(), AllocError>
-    ensures { OnOk result (ArePut figures.old figures.new (length_figures lengths.now)) }
+/// The mean of numbers, and the greatest.
+pub(crate) fn push_pair(
+    figures: &mut Figures,
+    name: &str,
+    numbers: &[u64],
+    unit: &'static str,
+) -> Result<(), AllocError>
+    ensures { OnOk result (ArePut figures.old.all figures.new.all (pair_figures name.now numbers.now unit.entry.now)) }
 {
-    let sum = sum_of(lengths);
-    let mean = share_of(sum, lengths.len());
-    push_thousandths(alloc, figures, "table_mean", mean, "bytes")?;
-    push_whole(
-        alloc,
-        figures,
-        "table_greatest",
-        greatest_of(lengths),
-        "bytes",
-    )?;
-    push_whole(alloc, figures, "tables_all", sum, "bytes")
+    let mean = share_of(sum_of(numbers), numbers.len());
+    figures.mean_and_greatest(name, mean, greatest_of(numbers), unit)
 }
 
-/// The greatest length, 0 where there is none.
-pub(crate) fn greatest_of(lengths: &[u64]) -> u64
+// How many bytes the tables take.
+fn push_lengths(figures: &mut Figures, lengths: &[u64]) -> Result<(), AllocError>
+    ensures { OnOk result (ArePut figures.old.all figures.new.all (length_figures lengths.now)) }
+{
+    push_pair(figures, "table", lengths, "bytes")?;
+    figures.whole("tables_all", sum_of(lengths), "bytes")
+}
+
+// The greatest length, 0 where there is none.
+fn greatest_of(lengths: &[u64]) -> u64
     ensures { result ≡ fold max 0 lengths.now }
 {
     let mut greatest = 0;
@@ -141,11 +112,11 @@ pub(crate) fn greatest_of(lengths: &[u64]) -> u64
 }
 
 // Full tables are all as long.
-fn push_full(alloc: Global, figures: &mut Vec<Figure>, nodes: u16) -> Result<(), AllocError>
-    ensures { OnOk result (ArePut figures.old figures.new (full_figures nodes)) }
+fn push_full(figures: &mut Figures, nodes: u16) -> Result<(), AllocError>
+    ensures { OnOk result (ArePut figures.old.all figures.new.all (full_figures nodes)) }
 {
     let each = full_length(nodes);
-    push_whole(alloc, figures, "full_table", each, "bytes")?;
+    figures.whole("full_table", each, "bytes")?;
     let all = each * nodes as u64;
-    push_whole(alloc, figures, "full_tables_all", all, "bytes")
+    figures.whole("full_tables_all", all, "bytes")
 }

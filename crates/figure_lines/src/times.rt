@@ -1,10 +1,8 @@
 //! Times, as JSON.
-ghost use Rattle.std.specs.Prelude.{◌≡◌, IfOk, OnOk};
+ghost use Rattle.std.specs.Prelude.{◌≡◌, IfOk};
 ghost use Rattle.std.specs.String.{string_bytes};
-ghost use Rattle.serde_json.specs.Data.{array};
-ghost use Rattle.serde_json.specs.Events.{SendsValue};
-ghost use Rattle.figure_lines.specs.Json.{items_by, json_line};
-ghost use Rattle.figure_lines.specs.Times.{time_data, times_data};
+ghost use Rattle.figure_lines.specs.Json.{json_line};
+ghost use Rattle.figure_lines.specs.Times.{times_data};
 
 use crate::json::{json_text, send_number};
 use serde::{Described, Serialize, Serializer};
@@ -85,19 +83,9 @@ impl<'a> Serialize for TimesObject<'a> {
         out.key("machine")?;
         self.machine.serialize(out)?;
         out.key("times")?;
-        send_rows(out, self.rows)?;
+        Serialize::serialize(&self.rows, out)?;
         out.end_map()
     }
-}
-
-fn send_rows<S: Serializer>(out: &mut S, rows: &[TimeRow]) -> Result<(), S::Error>
-    ensures { OnOk result (SendsValue (array (items_by time_data rows.now)) (S.written out.old) (S.written out.new)) }
-{
-    out.begin_seq(Some(rows.len()))?;
-    for row in rows {
-        row.serialize(out)?;
-    }
-    out.end_seq()
 }
 
 /// Times as a line of JSON: an object of the machine, and an array with an object for each.

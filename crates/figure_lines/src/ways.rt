@@ -3,9 +3,9 @@ ghost use Rattle.std.specs.Prelude.{◌≡◌, IfOk, OnOk, map};
 ghost use Rattle.figure_lines.specs.Figures.{ArePut, said};
 ghost use Rattle.figure_lines.specs.Ways.{AreWayFigures, mean_of as mean_in, stretch_figures};
 
-use crate::figure::{Figure, push_thousandths, push_whole};
+use crate::figure::{Figure, Figures};
 use crate::scheme_tables::share_of;
-use scheme_figures::{Measured, Stretches, stretches_of};
+use scheme_figures::{Measured, stretches_of};
 use statistics::{percentile, rounded, sum_of};
 use std::alloc::{AllocError, Global};
 
@@ -16,58 +16,24 @@ pub fn way_figures_of(alloc: Global, measured: &[Measured]) -> Result<Vec<Figure
 {
     let found = stretches_of(alloc, measured)?;
     let stretches = found.sorted.as_slice();
-    let mut figures = Vec::new(alloc);
-    push_whole(alloc, &mut figures, "pairs", measured.len() as u64, "pairs")?;
-    push_whole(
-        alloc,
-        &mut figures,
-        "unreachable",
-        found.apart as u64,
-        "pairs",
-    )?;
-    push_stretches(alloc, &mut figures, stretches)?;
+    let mut figures = Figures::new(alloc);
+    figures.whole("pairs", measured.len() as u64, "pairs")?;
+    figures.whole("unreachable", found.apart as u64, "pairs")?;
+    push_stretches(&mut figures, stretches)?;
     let exact = share_of(found.exact as u64, stretches.len());
-    push_thousandths(alloc, &mut figures, "exact_share", exact, "share")?;
-    Ok(figures)
+    figures.thousandths("exact_share", exact, "share")?;
+    Ok(figures.all)
 }
 
 // The mean of stretches, and those at 50, 95, 99 and all hundredths.
-fn push_stretches(
-    alloc: Global,
-    figures: &mut Vec<Figure>,
-    stretches: &[u64],
-) -> Result<(), AllocError>
-    ensures { OnOk result (ArePut figures.old figures.new (stretch_figures stretches.now)) }
+fn push_stretches(figures: &mut Figures, stretches: &[u64]) -> Result<(), AllocError>
+    ensures { OnOk result (ArePut figures.old.all figures.new.all (stretch_figures stretches.now)) }
 {
-    push_thousandths(alloc, figures, "stretch_mean", mean_of(stretches), "times")?;
-    push_thousandths(
-        alloc,
-        figures,
-        "stretch_p50",
-        percentile(stretches, 50),
-        "times",
-    )?;
-    push_thousandths(
-        alloc,
-        figures,
-        "stretch_p95",
-        percentile(stretches, 95),
-        "times",
-    )?;
-    push_thousandths(
-        alloc,
-        figures,
-        "stretch_p99",
-        percentile(stretches, 99),
-        "times",
-    )?;
-    push_thousandths(
-        alloc,
-        figures,
-        "stretch_greatest",
-        percentile(stretches, 100),
-        "times",
-    )
+    figures.thousandths("stretch_mean", mean_of(stretches), "times")?;
+    figures.thousandths("stretch_p50", percentile(stretches, 50), "times")?;
+    figures.thousandths("stretch_p95", percentile(stretches, 95), "times")?;
+    figures.thousandths("stretch_p99", percentile(stretches, 99), "times")?;
+    figures.thousandths("stretch_greatest", percentile(stretches, 100), "times")
 }
 
 /// The mean of thousandths, none where there is none.

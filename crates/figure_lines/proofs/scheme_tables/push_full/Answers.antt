@@ -12,6 +12,6 @@ overflow_mul-all c =
 
 pub returns : goal.returns
 returns c =
-    let first = pushed_first _ _ _ _ (ap (λ value. whole (codes "full_table") value (codes "bytes")) c.full_length-each.ensures) c.in_ok-push_whole.ensures in
-    on_ok_weaker c.push_whole-2.result
-    (λ last. (pushed_next _ _ _ _ _ _ (ap (λ value. whole (codes "full_tables_all") (value * c.args.nodes) (codes "bytes")) c.full_length-each.ensures) first last).is) c.push_whole-2.ensures
+    let first = pushed_first _ _ _ _ (ap (λ value. whole (codes "full_table") value (codes "bytes")) c.full_length-each.ensures) c.in_ok-whole.ensures in
+    on_ok_weaker c.whole-2.result
+    (λ last. (pushed_next _ _ _ _ _ _ (ap (λ value. whole (codes "full_tables_all") (value * c.args.nodes) (codes "bytes")) c.full_length-each.ensures) first last).is) c.whole-2.ensures

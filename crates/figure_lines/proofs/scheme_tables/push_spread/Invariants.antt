@@ -4,4 +4,4 @@ use Rattle.figure_lines.specs.Schemes.{cell_figure}
 use Rattle.figure_lines.proofs.scheme_tables.push_spread.Given as goal
 
 abbrev pub invariant-loop-cell : goal.invariant-loop-cell
-invariant-loop-cell l = map said l.figures.items ≡ map said l.initial.figures.items ++ map (cell_figure l.name) (take l.cell-index l.cell-items)
+invariant-loop-cell l = map said l.figures.all.items ≡ map said l.initial.figures.all.items ++ map (cell_figure l.name) (take l.cell-index l.cell-items)

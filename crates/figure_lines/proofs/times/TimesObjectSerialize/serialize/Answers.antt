@@ -1,4 +1,6 @@
 use Rattle.std.proofs.lemmas.Result.{on_ok_weaker}
+use Rattle.figure_lines.specs.Times.{time_data}
+use Rattle.figure_lines.proofs.Lines.{list_sent}
 use Rattle.figure_lines.proofs.times.TimesObjectSerialize.serialize.Goals as goal
 
 pub returns : goal.returns
@@ -12,6 +14,6 @@ returns g c =
         w c.serialize.new.out,
         c.in_ok-key.ensures,
         c.in_ok-serialize.ensures,
-        (w c.key-2.new.self, w c.send_rows.new.out, c.in_ok-key-2.ensures, c.in_ok-send_rows.ensures, ends),
+        (w c.key-2.new.self, w c.serialize-2.new.out, c.in_ok-key-2.ensures, list_sent time_data c.args.self.now.rows.now _ _ c.in_ok-serialize-2.ensures, ends),
       ),
     )) c.end_map.ensures

@@ -1,8 +1,0 @@
-use Rattle.std.proofs.Common.{take}
-use Rattle.serde.specs.Event.{WritesEach}
-use Rattle.serde_json.specs.Events.{SendsValue}
-use Rattle.figure_lines.specs.Times.{time_data}
-use Rattle.figure_lines.proofs.times.send_rows.Given as goal
-
-abbrev pub invariant-loop-row : goal.invariant-loop-row
-invariant-loop-row g l = WritesEach (λ row. SendsValue (time_data row)) (take l.row-index l.rows) (g.S.Serializer.written l.initial.out) (g.S.Serializer.written l.out)
