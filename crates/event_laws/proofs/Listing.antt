@@ -1,40 +1,62 @@
--- The machine's lists go on by each event.
-use Rattle.std.proofs.Common.{◌≡◌, ◌≢◌, ⊎_elim, inl, ◌≤◌, ◌+◌, ◌||◌, ℕ, Bool, true, false, cond, nat_le, is_some, List, [], ◌∷◌, ◌++◌, length, take, drop, Option, Some, None, option_to_list, slice_get, Result, Ok, Err, refl, sym, ap, ◌∙◌, subst, arith, append-nil}
+-- What sessions know of their last tickets, and how the machine's lists go on by each event; what was posted is lawful and durable.
+use Rattle.std.proofs.Common.{◌≡◌, ◌≢◌, ◌+◌, ℕ, Bool, true, false, List, [], ◌∷◌, ◌++◌, length, take, drop, Option, Some, None, option_to_list, slice_get, refl, sym, ap, ◌∙◌, subst, arith, append-nil, inl, inr, ◌<◌, zero, suc, set, replicate}
 use Rattle.std.proofs.lemmas.List.{take-append-le, length-take-le, drop_all}
 use Rattle.std.proofs.lemmas.Option.{slice_get_within}
-use Rattle.requests.specs.Tickets.{sessions, last_of}
+use Rattle.std.specs.Option.{unwrap_or}
+use Rattle.std.proofs.lemmas.Bool.{cases_eq}
+use Rattle.requests.specs.Tickets.{sessions, last_of, tickets_after}
 use Rattle.requests.specs.declared.request.Request.{Request}
-use Rattle.layout_2.specs.State.{State, AreInTurn}
-use Rattle.schemes.specs.declared.packet.Packet.{Packet}
+use Rattle.layout_2.specs.State.{State, AreInTurn, asked}
 use Rattle.generations.specs.declared.posting.Notice.{Notice}
 use Rattle.generations.specs.declared.posting.Notice.TheVariants.{Marked, Failed, Built}
-use Rattle.group_commit.specs.Limits.{most_held}
-use Rattle.group_commit.specs.declared.refused.DeskRefused.TheVariants.{Device, Down, Worn}
-use Rattle.forwarders.specs.declared.refused.Refused.{Refused}
-use Rattle.forwarders.specs.Answers.{hop_at}
-use Rattle.intake.specs.declared.outcome.SubmitRefused.{SubmitRefused}
-use Rattle.intake.specs.declared.outcome.SubmitRefused.TheVariants.{QueueFull}
+use Rattle.intake.specs.Turns.{of, last_asked, last_or_start}
 use Rattle.intake.specs.Outcomes.{refusal_on}
-use Rattle.event_model.specs.declared.session.Session.{Session}
-use Rattle.event_model.specs.declared.event.Event.{Event}
-use Rattle.event_model.specs.declared.event.Event.TheVariants.{Submit, Look, Take, Commit, Post, Rebuild, Launch, Hop}
-use Rattle.event_model.specs.declared.reply.Reply.{Reply}
-use Rattle.event_model.specs.declared.reply.Reply.TheVariants.{Submitted, NotSubmitted, Taken, Committed, NotCommitted, Rebuilt, NotRebuilt, Idle, NoActor, Memory}
-use Rattle.event_model.specs.Trips.{Trip, launch_by}
-use Rattle.event_model.specs.Machines.{Machine, begun, held, waiting, board_at, let_in, with_posted, grouped, committed, lost}
-use Rattle.event_model.specs.Answers.{Answer, answer, queue_by, unless_refused, submit_by, submit, further, look_by, look, take_by, take_one, post_by, post, CommitAnswers, IsBuilt, RebuildAnswers, sees, looked, launch_as, launch, hop_as, hop_by, hop, OrMemory, Answers}
-use Rattle.event_model.specs.Runs.{Run}
+use Rattle.intake.proofs.InTurns.{of_own, of_other, own_last}
+use Rattle.intake.proofs.Refusals.{asked_push}
 use Rattle.request_lists.specs.declared.builds.Builds.TheVariants.{InTurn}
 use Rattle.request_lists.specs.Lists.{AreListed}
-use Rattle.event_laws.specs.Listed.{IsListed, DueFits, all_told}
-use Rattle.event_laws.proofs.Sessions.{know_looked, know_asked, know_first, stay_in_turn}
+use Rattle.request_lists.specs.Posted.{ArePosted}
+use Rattle.request_lists.proofs.Posted.{posted_first}
 use Rattle.request_lists.proofs.Steps.{listed_first, listed_taken, listed_asked, listed_marks, listed_down, listed_built}
+use Rattle.event_model.specs.declared.session.Session.{Session}
+use Rattle.event_model.specs.declared.reply.Reply.{Reply}
+use Rattle.event_model.specs.Machines.{Machine, held, board_at, let_in, with_session, with_posted, grouped, committed, lost, fresh_session}
+use Rattle.event_laws.specs.Listed.{IsListed, DueFits, KnowTheirLast, all_told, KnowsItsLast}
+use Rattle.event_laws.specs.Queues.{let_in_by}
+use Rattle.event_laws.specs.QueueLaws.{BeginsListed, AnswersKeep, RebuildKeeps, RunKeeps, PostingsAreLawful, PostingsAreDurable}
+use Rattle.event_laws.specs.Submits.{IsLastOf}
+use Rattle.event_laws.proofs.CameTo.{refusal_of, posted, is_route, CameTo, stays, asks, looks, takes, commits, loses, wears, posts, builds, routes, rebuild_comes, came_to}
+use Rattle.event_laws.proofs.Refusing.{let_in_turn}
+use Rattle.event_laws.proofs.Every.{set_at, get_other}
 
--- what holds before and after holds where the reply may be Memory
-or_memory : (P : Machine → Type 0) (a : Answer) (m : Machine) (reply : Reply) (n : Machine) → OrMemory a m reply n → P m → P a.after → P n
-or_memory P a m reply n h before after = ⊎_elim (λ (x : (reply ≡ a.reply) × (n ≡ a.after)). subst P (sym x.1) after) (λ (x : (reply ≡ Memory) × (n ≡ m)). subst P (sym x.1) before) h
+-- one session is written, which has the last ticket of its own, and no other asked for more
+pub know_set : (old new : List Request) (all : List Session) (s : ℕ) (x y : Session) → KnowTheirLast old all → slice_get all s ≡ Some x → y.last ≡ last_asked (of s new) → ((k : ℕ) → k ≢ s → of k new ≡ of k old)
+    → KnowTheirLast new (set all s y)
+know_set old new all s x y know at own others k z e = elim (cases_eq k s) [
+  | inl same ↦
+      (let is : y ≡ z = set_at all s y z (ap (slice_get (set all s y)) (sym same) ∙ e) in
+      record {
+        there = (let t = (know s x at).there in omega (arith, t, same));
+        last = ap (λ (w : Session). w.last) (sym is) ∙ (own ∙ ap (λ (j : ℕ). last_asked (of j new)) (sym same));
+      })
+  | inr other ↦
+      (let was = know k z (sym (get_other all k s y other) ∙ e) in
+      record { there = was.there; last = was.last ∙ ap last_asked (sym (others k other)) })
+]
 
-pub begins : (first : State) (capacity n : ℕ) (down : Bool) → length first.tickets ≡ sessions → n ≤ sessions → IsListed first (begun capacity n first down)
+pub know_first : (n s : ℕ) (x : Session) → slice_get (replicate n fresh_session) s ≡ Some x → (s < n) × (x.last ≡ None)
+know_first zero s x e = cc
+know_first (suc n) zero x e = (omega arith, (let g : fresh_session ≡ x = cc in ap (λ (w : Session). w.last) (sym g)))
+know_first (suc n) (suc s) x e = let h = know_first n s x e in (let l = h.0 in omega (arith, l), h.1)
+
+-- the last ticket that a session knows, or else its start, is its last one of all requests
+pub is_last : (starts : List ℕ) (requests : List Request) (s : ℕ) (x : Session) → length starts ≡ sessions → KnowsItsLast requests s x → IsLastOf starts requests s x.last
+is_last starts requests s x wide know =
+    let there = know.there in
+    let own : last_of (tickets_after starts (asked requests)) s ≡ last_or_start (last_of starts s) (of s requests) = own_last starts requests s (omega (arith, there, wide)) in
+    ap (λ (o : Option ℕ). unwrap_or o (last_of starts s)) know.last ∙ sym own
+
+pub begins : BeginsListed
 begins first capacity n down wide few = record {
   wide = wide;
   starts = refl;
@@ -44,216 +66,76 @@ begins first capacity n down wide few = record {
   due = tt;
 }
 
--- ---- submit
+-- the lists of a machine, with these notices told
+abbrev Lists : State → Machine → List Notice → Type 0
+Lists first m told = AreListed InTurn first told m.asked m.done m.taken m.state m.down
 
-let_in_on : (first : State) (m : Machine) (x : Session) (r : Request) → IsListed first m → slice_get m.sessions r.session ≡ Some x → AreInTurn first.tickets (m.asked ++ r ∷ [])
-    → IsListed first (let_in m (record { seen = x.seen; last = Some r.ticket }) r)
-let_in_on first m x r is at next = record {
-  wide = is.wide;
-  starts = is.starts;
-  start = is.start;
-  lists = listed_asked first (all_told m) m.asked m.done m.taken m.state m.down r is.lists next;
-  last = know_asked m.asked m.sessions r x (record { seen = x.seen; last = Some r.ticket }) is.last at refl;
-  due = subst (λ (l : List Request). DueFits m.due (drop m.done l) m.down) (sym (take-append-le m.taken m.asked (r ∷ []) is.lists.within)) is.due;
-}
+-- with the same beginning
+keeps : (first : State) (m n : Machine) → IsListed first m → n.starts ≡ m.starts → n.start ≡ m.start → Lists first n (all_told n) → KnowTheirLast n.asked n.sessions → DueFits n.due (held n) n.down → IsListed first n
+keeps first m n is starts start lists last due = record { wide = is.wide; starts = starts ∙ is.starts; start = start ∙ is.start; lists = lists; last = last; due = due }
 
-queue_on : (first : State) (m : Machine) (x : Session) (r : Request) → IsListed first m → slice_get m.sessions r.session ≡ Some x → AreInTurn first.tickets (m.asked ++ r ∷ []) → IsListed first (queue_by m x r).after
-queue_on first m x r is at next = by (nat_le m.capacity (length (waiting m)))
-  where
-    by : (full : Bool) → IsListed first (cond full (answer (NotSubmitted QueueFull) m) (answer (Submitted r.ticket) (let_in m (record { seen = x.seen; last = Some r.ticket }) r))).after
-    by true = is
-    by false = let_in_on first m x r is at next
-
-submit_on : (first : State) (m : Machine) (r : Request) → IsListed first m → IsListed first (submit m r).after
-submit_on first m r is = by (slice_get m.sessions r.session) refl
-  where
-    refused : (x : Session) (o : Option SubmitRefused) → slice_get m.sessions r.session ≡ Some x → refusal_on (board_at m x.seen) r.session (last_of m.starts r.session) x.last r.ticket ≡ o → IsListed first (unless_refused m x r o).after
-    refused x (Some e) at test = is
-    refused x None at test = queue_on first m x r is at (stay_in_turn first.tickets m.starts m.asked (board_at m x.seen) x r is.wide is.starts is.lists.in_turn (is.last r.session x at) test)
-
-    by : (o : Option Session) → slice_get m.sessions r.session ≡ o → IsListed first (submit_by m r o).after
-    by None at = is
-    by (Some x) at = refused x (refusal_on (board_at m x.seen) r.session (last_of m.starts r.session) x.last r.ticket) at refl
-
--- ---- look
-
-look_on : (first : State) (m : Machine) (s at : ℕ) → IsListed first m → IsListed first (look m s at).after
-look_on first m s at is = by (slice_get m.sessions s) refl
-  where
-    by : (o : Option Session) → slice_get m.sessions s ≡ o → IsListed first (look_by m s at o).after
-    by None e = is
-    by (Some x) e = record {
-      wide = is.wide;
-      starts = is.starts;
-      start = is.start;
-      lists = is.lists;
-      last = know_looked m.asked m.sessions s x (record { seen = further m x.seen at; last = x.last }) is.last e refl;
-      due = is.due;
-    }
-
--- ---- take
-
--- where nothing is due, what is held may be anything
-none_due : (requests others : List Request) (down : Bool) (due : Option Notice) (full : Bool) → (is_some due || full) ≡ false → DueFits due requests down → DueFits due others down
-none_due requests others down None full e fits = tt
-none_due requests others down (Some notice) full e fits = absurd (let f : true ≡ false = e in cc)
-
-take_on : (first : State) (m : Machine) → IsListed first m → IsListed first (take_one m).after
-take_on first m is = by (slice_get m.asked m.taken) refl
-  where
-    later : Machine
-    later = record m { taken = m.taken + 1 }
-
-    free : (r : Request) (full : Bool) → slice_get m.asked m.taken ≡ Some r → (is_some m.due || nat_le most_held (length (held m))) ≡ full → IsListed first (cond full (answer Idle m) (answer (Taken r.session r.ticket) later)).after
-    free r true e test = is
-    free r false e test = record {
-      wide = is.wide;
-      starts = is.starts;
-      start = is.start;
-      lists = listed_taken first (all_told m) m.asked m.done m.taken m.state m.down is.lists (slice_get_within m.asked m.taken r e);
-      last = is.last;
-      due = none_due (held m) (held later) m.down m.due (nat_le most_held (length (held m))) test is.due;
-    }
-
-    by : (o : Option Request) → slice_get m.asked m.taken ≡ o → IsListed first (take_by m o).after
-    by None e = is
-    by (Some r) e = free r (is_some m.due || nat_le most_held (length (held m))) e refl
-
--- ---- post
-
-post_on : (first : State) (m : Machine) → IsListed first m → IsListed first (post m).after
-post_on first m is = by m.due refl
-  where
-    by : (o : Option Notice) → m.due ≡ o → IsListed first (post_by m o).after
-    by None e = is
-    by (Some notice) e = record {
-      wide = is.wide;
-      starts = is.starts;
-      start = is.start;
-      lists = subst (λ (l : List Notice). AreListed InTurn first l m.asked m.done m.taken m.state m.down) (ap (λ (d : Option Notice). m.postings ++ option_to_list d) e ∙ sym (append-nil (m.postings ++ notice ∷ []))) is.lists;
-      last = is.last;
-      due = tt;
-    }
-
--- ---- commit
+-- a request that a board lets in leaves all in turn
+next_in_turn : (first : State) (m : Machine) (x : Session) (r : Request) → IsListed first m → slice_get m.sessions r.session ≡ Some x → refusal_of m x r ≡ None → AreInTurn first.tickets (m.asked ++ r ∷ [])
+next_in_turn first m x r is at none =
+    let know = is.last r.session x at in
+    let_in_turn first.tickets m.asked (board_at m x.seen) x.last r is.lists.in_turn know.there (is_last first.tickets m.asked r.session x is.wide know)
+    (ap (λ (ts : List ℕ). refusal_on (board_at m x.seen) r.session (last_of ts r.session) x.last r.ticket) (sym is.starts) ∙ none)
 
 -- where a group is held and the store is up, nothing is due
 due_free : (due : Option Notice) (requests : List Request) (down : Bool) → DueFits due requests down → requests ≢ [] → down ≡ false → due ≡ None
 due_free None requests down fits some up = refl
 due_free (Some (Marked marks)) requests down fits some up = absurd (some fits)
-due_free (Some Failed) requests down fits some up = absurd (let f = fits in cc)
+due_free (Some Failed) requests down fits some up = (let f : down ≡ true = fits in cc)
 due_free (Some (Built number scheme)) requests down fits some up = absurd fits
 
--- where nothing is due, what was told is what was posted
-free_told : (m : Machine) → m.due ≡ None → all_told m ≡ m.postings
-free_told m e = ap (λ (d : Option Notice). m.postings ++ option_to_list d) e ∙ append-nil m.postings
+free_lists : (first : State) (m : Machine) → IsListed first m → held m ≢ [] → m.down ≡ false → Lists first m m.postings
+free_lists first m is some up =
+    subst (Lists first m) (ap (λ (d : Option Notice). m.postings ++ option_to_list d) (due_free m.due (held m) m.down is.due some up) ∙ append-nil m.postings) is.lists
 
--- the lists, where a group is held and the store is up
-posted_lists : (first : State) (m : Machine) → IsListed first m → held m ≢ [] → m.down ≡ false → AreListed InTurn first m.postings m.asked m.done m.taken m.state m.down
-posted_lists first m is some up = subst (λ (l : List Notice). AreListed InTurn first l m.asked m.done m.taken m.state m.down) (free_told m (due_free m.due (held m) m.down is.due some up)) is.lists
-
-committed_on : (first : State) (m : Machine) → IsListed first m → held m ≢ [] → m.down ≡ false → IsListed first (committed m)
-committed_on first m is some up = record {
-  wide = is.wide;
-  starts = is.starts;
-  start = is.start;
-  lists = listed_marks first m.postings m.asked m.done m.taken m.state m.down (posted_lists first m is some up) up;
-  last = is.last;
-  due = drop_all m.taken (take m.taken m.asked) (let e = length-take-le m.taken m.asked is.lists.within in omega (arith, e));
-}
-
-lost_on : (first : State) (m : Machine) → IsListed first m → held m ≢ [] → m.down ≡ false → IsListed first (lost m)
-lost_on first m is some up = record {
-  wide = is.wide;
-  starts = is.starts;
-  start = is.start;
-  lists = listed_down first m.postings m.asked m.done m.taken m.state m.down (posted_lists first m is some up) up;
-  last = is.last;
-  due = refl;
-}
-
-same_lists : (first : State) (m n : Machine) → n ≡ m → IsListed first m → IsListed first n
-same_lists first m n e is = subst (IsListed first) (sym e) is
-
-commit_on : (first : State) (m : Machine) (reply : Reply) (n : Machine) → CommitAnswers m reply n → IsListed first m → IsListed first n
-commit_on first m Idle n h is = same_lists first m n h.1 is
-commit_on first m (Committed accepted) n h is = same_lists first (committed m) n h.3 (committed_on first m is h.0 h.1)
-commit_on first m (NotCommitted Device) n h is = same_lists first (lost m) n h.2 (lost_on first m is h.0 h.1)
-commit_on first m (NotCommitted Down) n h is = same_lists first m n h.2 is
-commit_on first m (NotCommitted Worn) n h is = same_lists first (grouped m) n h.2 (record { wide = is.wide; starts = is.starts; start = is.start; lists = is.lists; last = is.last; due = is.due })
-commit_on first m Memory n h is = same_lists first m n h.2 is
-commit_on first m reply n h is = absurd h
-
--- ---- rebuild
-
--- what was due is posted
-post_free : (m : Machine) → ((post m).after.due ≡ None) × ((post m).after.down ≡ m.down)
-post_free m = by m.due refl
-  where
-    by : (o : Option Notice) → m.due ≡ o → ((post_by m o).after.due ≡ None) × ((post_by m o).after.down ≡ m.down)
-    by None e = (e, refl)
-    by (Some notice) e = (refl, refl)
-
-built_on : (first : State) (words : List ℕ) (m n : Machine) → IsListed first m → m.due ≡ None → m.down ≡ false → IsBuilt words m n → IsListed first n
-built_on first words m n is free up h =
-    let lists = subst (λ (l : List Notice). AreListed InTurn first l m.asked m.done m.taken m.state m.down) (free_told m free) is.lists in
-    ⊎_elim (λ x. same_lists first m n x.1 is)
-    (λ x.
-    let scheme = x.1.0 in
+listed : (first : State) (m : Machine) (routed : Bool) (more : List Request) (reply : Reply) (n : Machine) → IsListed first m → CameTo m routed more reply n → IsListed first n
+listed first m routed more reply n is (stays b q quiet) = is
+listed first m routed more reply n is (asks x r at none) =
+    let y : Session = record { seen = x.seen; last = Some r.ticket } in
+    keeps first m (let_in m y r) is refl refl (listed_asked first (all_told m) m.asked m.done m.taken m.state m.down r is.lists (next_in_turn first m x r is at none))
+    (know_set m.asked (m.asked ++ r ∷ []) m.sessions r.session x y is.last at (sym (asked_push (of r.session m.asked) r) ∙ ap last_asked (sym (of_own m.asked r r.session refl))) (λ k other. of_other m.asked r k (λ f. other (sym f))))
+    (subst (λ (l : List Request). DueFits m.due (drop m.done l) m.down) (sym (take-append-le m.taken m.asked (r ∷ []) is.lists.within)) is.due)
+listed first m routed more reply n is (looks s x seen outcome at) =
+    let y : Session = record { seen = seen; last = x.last } in
+    keeps first m (with_session m s y) is refl refl is.lists (know_set m.asked m.asked m.sessions s x y is.last at (is.last s x at).last (λ k _. refl)) is.due
+listed first m routed more reply n is (takes r at none) =
+    let later : Machine = record m { taken = m.taken + 1 } in
+    keeps first m later is refl refl (listed_taken first (all_told m) m.asked m.done m.taken m.state m.down is.lists (slice_get_within m.asked m.taken r at)) is.last
+    (subst (λ (d : Option Notice). DueFits d (held later) m.down) (sym none) tt)
+listed first m routed more reply n is (commits some up) =
+    keeps first m (committed m) is refl refl (listed_marks first m.postings m.asked m.done m.taken m.state m.down (free_lists first m is some up) up) is.last
+    (drop_all m.taken (take m.taken m.asked) (let e = length-take-le m.taken m.asked is.lists.within in omega (arith, e)))
+listed first m routed more reply n is (loses some up) = keeps first m (lost m) is refl refl (listed_down first m.postings m.asked m.done m.taken m.state m.down (free_lists first m is some up) up) is.last refl
+listed first m routed more reply n is wears = keeps first m (grouped m) is refl refl is.lists is.last is.due
+listed first m routed more reply n is (posts q quiet) = keeps first m (posted m) is refl refl (subst (Lists first m) (sym (append-nil (all_told m))) is.lists) is.last tt
+listed first m routed more reply n is (builds scheme up newest given serves) =
     let p : Notice = Built m.state.count scheme in
-    same_lists first (with_posted m p) n x.1.1.1 (record {
-      wide = is.wide;
-      starts = is.starts;
-      start = is.start;
-      lists = subst (λ (l : List Notice). AreListed InTurn first l m.asked m.done m.taken m.state m.down) (sym (ap (λ (d : Option Notice). (m.postings ++ p ∷ []) ++ option_to_list d) free ∙ append-nil (m.postings ++ p ∷ [])))
-          (listed_built first m.postings m.asked m.done m.taken m.state m.down scheme lists up x.0 x.1.1.0.given x.1.1.0.serves);
-      last = is.last;
-      due = is.due;
-    }))
-    h
+    keeps first m (with_posted (posted m) p) is refl refl
+    (subst (Lists first m) (sym (append-nil (all_told m ++ p ∷ []))) (listed_built first (all_told m) m.asked m.done m.taken m.state m.down scheme is.lists up newest given serves)) is.last tt
+listed first m routed more reply n is (routes q seen ways quiet) = keeps first m (record m { seen = seen; ways = ways }) is refl refl is.lists is.last is.due
 
-pub rebuild_on : (first : State) (words : List ℕ) (m : Machine) (reply : Reply) (n : Machine) → IsListed first m → RebuildAnswers words m reply n → IsListed first n
-rebuild_on first words m NotRebuilt n is h = same_lists first m n h.1 is
-rebuild_on first words m (Rebuilt generation) n is h = let free = post_free m in built_on first words (post m).after n (post_on first m is) free.0 (free.1 ∙ h.0) h.2
-rebuild_on first words m Memory n is h = ⊎_elim (λ (e : n ≡ m). same_lists first m n e is) (λ (e : n ≡ (post m).after). same_lists first (post m).after n e (post_on first m is)) h.1
-rebuild_on first words m reply n is h = absurd h
+pub answers_on : AnswersKeep
+answers_on first event m reply n is h = listed first m (is_route event) (let_in_by event reply) reply n is (came_to event m reply n h)
 
--- ---- packets leave the lists
+pub rebuild_on : RebuildKeeps
+rebuild_on first words m reply n is h = listed first m false [] reply n is (rebuild_comes words m reply n h)
 
-launch_on : (first : State) (m : Machine) (u v at : ℕ) → IsListed first m → IsListed first (launch m u v at).after
-launch_on first m u v at is = by (launch_by (board_at m (sees m at)).shelf u v)
-  where
-    by : (o : Result Packet Refused) → IsListed first (launch_as (looked m at) u v o).after
-    by (Ok packet) = record { wide = is.wide; starts = is.starts; start = is.start; lists = is.lists; last = is.last; due = is.due }
-    by (Err refused) = record { wide = is.wide; starts = is.starts; start = is.start; lists = is.lists; last = is.last; due = is.due }
-
-hop_on : (first : State) (m : Machine) (i at : ℕ) → IsListed first m → IsListed first (hop m i at).after
-hop_on first m i at is = by (slice_get m.ways i)
-  where
-    there : (way : Trip) (b : Bool) → IsListed first (cond b (hop_as (looked m at) i way (hop_at way.at way.packet (board_at m (sees m at)).shelf)) (answer NoActor m)).after
-    there way true = record { wide = is.wide; starts = is.starts; start = is.start; lists = is.lists; last = is.last; due = is.due }
-    there way false = is
-
-    by : (o : Option Trip) → IsListed first (hop_by m i at o).after
-    by None = is
-    by (Some way) = there way way.there
-
--- ---- one event, and a run
-
-pub answers_on : (first : State) (event : Event) (m : Machine) (reply : Reply) (n : Machine) → IsListed first m → Answers event m reply n → IsListed first n
-answers_on first (Submit session ticket change) m reply n is h =
-    let r : Request = record { session = session; ticket = ticket; change = change } in
-    or_memory (IsListed first) (submit m r) m reply n h is (submit_on first m r is)
-answers_on first (Look session at) m reply n is h = or_memory (IsListed first) (look m session at) m reply n h is (look_on first m session at is)
-answers_on first Take m reply n is h = or_memory (IsListed first) (take_one m) m reply n (inl h) is (take_on first m is)
-answers_on first Commit m reply n is h = commit_on first m reply n h is
-answers_on first Post m reply n is h = or_memory (IsListed first) (post m) m reply n h is (post_on first m is)
-answers_on first (Rebuild words) m reply n is h = rebuild_on first words.items m reply n is h
-answers_on first (Launch from to at) m reply n is h = or_memory (IsListed first) (launch m from to at) m reply n h is (launch_on first m from to at is)
-answers_on first (Hop packet at) m reply n is h = or_memory (IsListed first) (hop m packet at) m reply n h is (hop_on first m packet at is)
-
-pub run_on : (first : State) (m : Machine) (events : List Event) (replies : List Reply) (n : Machine) → IsListed first m → Run m events replies n → IsListed first n
-run_on first m [] [] n is run = same_lists first m n run is
-run_on first m [] (reply ∷ replies) n is run = absurd run
-run_on first m (event ∷ events) [] n is run = absurd run
+pub run_on : RunKeeps
+run_on first m [] [] n is run = subst (IsListed first) (sym run) is
 run_on first m (event ∷ events) (reply ∷ replies) n is run = run_on first run.0 events replies n (answers_on first event m reply run.0 is run.1.0) run.1.1
+run_on first m events replies n is run = absurd run
+
+-- ---- what was posted, without what is due
+
+posted_is : (first : State) (m : Machine) → IsListed first m → ArePosted InTurn first m.asked m.postings
+posted_is first m is = posted_first first m.postings (option_to_list m.due) m.asked m.done m.taken m.state m.down is.lists
+
+pub postings_lawful : PostingsAreLawful
+postings_lawful first m is = (posted_is first m is).lawful
+
+pub postings_durable : PostingsAreDurable
+postings_durable first m is = (posted_is first m is).durable

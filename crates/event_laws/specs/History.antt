@@ -1,5 +1,6 @@
 -- The history of a life, and the states that are prefixes of it.
 use Rattle.std.specs.Prelude.{◌≡◌, ◌<◌, ◌≤◌, ℕ, List, [], ◌∷◌, length, take, Bool, false}
+use Rattle.std.specs.List.{AllByRecursion}
 use Rattle.requests.specs.declared.request.Request.{Request}
 use Rattle.layout_2.specs.State.{State}
 use Rattle.layout_2.specs.Standing.{StandsFor}
@@ -43,8 +44,7 @@ pub record IsPrefixState (first : State) (lists : Lists) (least : ℕ) (image : 
 
 -- each group ends at n or before
 abbrev pub EndBy : ℕ → List (ℕ × ℕ) → Type 0
-EndBy n [] = Unit {0}
-EndBy n (g ∷ gs) = (g.1 ≤ n) × EndBy n gs
+EndBy n groups = AllByRecursion (λ g. g.1 ≤ n) groups
 
 -- the store's state is that after the settled requests
 pub record IsTied (first : State) (lists : Lists) : Type 0 where

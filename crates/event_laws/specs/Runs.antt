@@ -1,5 +1,6 @@
 -- Runs: what a crash may leave at each moment.
-use Rattle.std.specs.Prelude.{◌≤◌, ℕ, List, [], ◌∷◌}
+use Rattle.std.specs.Prelude.{◌≤◌, ℕ, List}
+use Rattle.std.specs.List.{AllByRecursion}
 use Rattle.disk_trait.specs.Disk.{DiskView}
 use Rattle.layout_2.specs.State.{State}
 use Rattle.event_laws.specs.History.{Lists, IsPrefixState, IsTied}
@@ -14,8 +15,7 @@ LeavesPrefix first disk lists t least = (image : List ℕ) → disk.left_since t
 
 -- so it is since each of these moments, with the count that was answered by then
 abbrev pub Holds : State → DiskView → Lists → List (ℕ × ℕ) → Type 0
-Holds first disk lists [] = Unit {0}
-Holds first disk lists (m ∷ ms) = (m.0 ≤ disk.clock) × (m.1 ≤ lists.state.count) × LeavesPrefix first disk lists m.0 m.1 × Holds first disk lists ms
+Holds first disk lists moments = AllByRecursion (λ m. (m.0 ≤ disk.clock) × (m.1 ≤ lists.state.count) × LeavesPrefix first disk lists m.0 m.1) moments
 
 -- what a life that opened to `first` keeps over its moments: a crash since any of them, or now, leaves a prefix state with all that
 -- a commit had answered Ok for by then

@@ -1,18 +1,31 @@
--- A run of a world goes on by one event.
-use Rattle.std.proofs.Common.{◌≡◌, ℕ, List, [], ◌∷◌, ◌++◌, map, refl, sym, ap, ◌∙◌, subst, IsTrue, append_assoc, append-nil}
+-- A run of a world goes on by one event, with its desk.
+use Rattle.std.proofs.Common.{List, [], ◌∷◌, ◌++◌, refl, ap, subst, ◌≡◌, ℕ, map, sym, ◌∙◌, IsTrue, append_assoc, append-nil}
 use Rattle.std.specs.List.{AllByRecursion}
 use Rattle.std.proofs.lemmas.List.{map-append}
 use Rattle.layout_2.specs.State.{State}
-use Rattle.event_laws.specs.Runs.{LeavesPrefix, Holds, IsRun}
 use Rattle.event_model.specs.declared.event.Event.{Event}
 use Rattle.event_model.specs.declared.reply.Reply.{Reply}
+use Rattle.event_model.specs.Runs.{Run}
+use Rattle.event_laws.specs.Runs.{LeavesPrefix, Holds, IsRun}
 use Rattle.event_laws.specs.Listed.{IsListed}
 use Rattle.event_laws.specs.QueueLaws.{AnswersKeep, AcknowledgedStay}
 use Rattle.interleave.specs.declared.world.World.{World}
-use Rattle.interleave.specs.WorldWords.{lists_of, machine_of, world_view}
+use Rattle.interleave.specs.WorldWords.{machine_of, lists_of, world_view}
 use Rattle.interleave.specs.Desks.{WorldStep, WorldRun}
 use Rattle.interleave.specs.Crashes.{HasWorlds, IsSafeSince, moment_at}
-use Rattle.interleave.proofs.Desks.{desks_push, desks_run}
+
+-- one event more
+pub desks_push : {D : Type 0} {V : _} → (w v : World D V) (es : List Event) (rs : List Reply) (ws : List (World D V)) (e : Event) (r : Reply) (k : World D V) → WorldRun w es rs ws v → WorldStep e v r k
+    → WorldRun w (es ++ e ∷ []) (rs ++ r ∷ []) (ws ++ k ∷ []) k
+desks_push {D = D} {V = V} w v [] [] [] e r k run one = (subst (λ (x : World D V). WorldStep e x r k) run one, refl)
+desks_push w v (x ∷ es) (y ∷ rs) (z ∷ ws) e r k run one = (run.0, desks_push z v es rs ws e r k run.1 one)
+desks_push w v es rs ws e r k run one = absurd run
+
+-- its machines are a run of the events
+pub desks_run : {D : Type 0} {V : _} → (w v : World D V) (es : List Event) (rs : List Reply) (ws : List (World D V)) → WorldRun w es rs ws v → Run (machine_of w) es rs (machine_of v)
+desks_run {D = D} {V = V} w v [] [] [] run = ap (λ (x : World D V). machine_of x) run
+desks_run w v (x ∷ es) (y ∷ rs) (z ∷ ws) run = (machine_of z, (run.0.answers, desks_run z v es rs ws run.1))
+desks_run w v es rs ws run = absurd run
 
 -- before the first event
 pub none_yet : {D : Type 0} {V : _} → (w : World D V) → HasWorlds w [] [] w
@@ -47,10 +60,7 @@ since stay first now w es rs ws listed run left = λ image was.
 -- a crash since each of the worlds of a run is safe, by the run's moments
 pub safe_each : {D : Type 0} {V : _} → AnswersKeep → AcknowledgedStay → (first : State) (now w : World D V) (es : List Event) (rs : List Reply) (ws : List (World D V)) → IsListed first (machine_of w) → WorldRun w es rs ws now
     → Holds first (world_view now) (lists_of now) (map (λ x. moment_at x) (w ∷ ws)) → AllByRecursion (IsSafeSince first now) (w ∷ ws)
-safe_each keeps stay first now w [] [] [] listed run holds = (since stay first now w [] [] [] listed run holds.2, tt)
-safe_each keeps stay first now w [] [] (z ∷ ws) listed run holds = absurd run
-safe_each keeps stay first now w [] (y ∷ rs) ws listed run holds = absurd run
-safe_each keeps stay first now w (x ∷ es) [] ws listed run holds = absurd run
-safe_each keeps stay first now w (x ∷ es) (y ∷ rs) [] listed run holds = absurd run
+safe_each keeps stay first now w [] [] [] listed run holds = (since stay first now w [] [] [] listed run holds.0.2, tt)
 safe_each keeps stay first now w (x ∷ es) (y ∷ rs) (z ∷ ws) listed run holds =
-    (since stay first now w (x ∷ es) (y ∷ rs) (z ∷ ws) listed run holds.2, safe_each keeps stay first now z es rs ws (keeps first x (machine_of w) y (machine_of z) listed run.0.answers) run.1 holds.3)
+    (since stay first now w (x ∷ es) (y ∷ rs) (z ∷ ws) listed run holds.0.2, safe_each keeps stay first now z es rs ws (keeps first x (machine_of w) y (machine_of z) listed run.0.answers) run.1 holds.1)
+safe_each keeps stay first now w es rs ws listed run holds = absurd run

@@ -1,7 +1,4 @@
-pub mod Newest
 pub mod Tickets
-pub mod Ways
-pub mod Lists
+pub mod Parts
 pub mod Steps
 pub mod Going
-pub mod Desks

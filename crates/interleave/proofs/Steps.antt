@@ -1,5 +1,5 @@
 -- What one event is answered, from what its call was answered.
-use Rattle.std.proofs.Common.{◌≡◌, ◌<◌, ◌≤◌, ◌+◌, ◌-◌, ◌||◌, ℕ, Bool, true, false, cond, nat_le, is_some, length, Option, Some, None, Result, slice_get, inl, inr, sym, ap, ◌∙◌, arith}
+use Rattle.std.proofs.Common.{◌≡◌, ◌<◌, ◌≤◌, ◌+◌, ◌-◌, ◌||◌, ℕ, Bool, true, false, cond, nat_le, is_some, length, Option, Some, None, Result, slice_get, inl, sym, ap, ◌∙◌, subst, arith}
 use Rattle.std.proofs.lemmas.Bool.Decides.{nat_tests}
 use Rattle.std.proofs.lemmas.List.{length-drop}
 use Rattle.requests.specs.declared.request.Request.{Request}
@@ -16,8 +16,8 @@ use Rattle.event_model.specs.declared.session.Session.{Session}
 use Rattle.event_model.specs.declared.reply.Reply.{Reply}
 use Rattle.event_model.specs.declared.reply.Reply.TheVariants.{Submitted, NotSubmitted, Looked, Taken, Idle, NoActor}
 use Rattle.event_model.specs.Trips.{Trip, launch_by}
-use Rattle.event_model.specs.Machines.{Machine, held, waiting, board_at, let_in, with_session}
-use Rattle.event_model.specs.Answers.{Answer, answer, Exactly, OrMemory, submit, submit_by, unless_refused, queue_by, look, look_by, further, take_one, take_by, launch, launch_as, looked, sees, hop, hop_by, hop_as}
+use Rattle.event_model.specs.Machines.{Machine, held, board_at, let_in, with_session}
+use Rattle.event_model.specs.Answers.{Answer, answer, Exactly, OrMemory, submit, submit_by, unless_refused, look, look_by, further, take_one, take_by, launch, launch_as, looked, sees, hop, hop_by, hop_as}
 
 -- it is answered as it should be
 pub exactly : (a b : Answer) (reply : Reply) (n : Machine) → a ≡ b → reply ≡ b.reply → n ≡ b.after → Exactly a reply n
@@ -37,25 +37,23 @@ takes m r at none room =
 
 -- ---- an editor submits
 
--- the board lets it in
-lets_in : (m : Machine) (r : Request) (x : Session) → slice_get m.sessions r.session ≡ Some x → refusal_on (board_at m x.seen) r.session (last_of m.starts r.session) x.last r.ticket ≡ None → submit m r ≡ queue_by m x r
-lets_in m r x at none = ap (submit_by m r) at ∙ ap (unless_refused m x r) none
+-- the board lets it in, and the queue may be full
+queued : (m : Machine) (r : Request) (x : Session) (full : Bool) → slice_get m.sessions r.session ≡ Some x → refusal_on (board_at m x.seen) r.session (last_of m.starts r.session) x.last r.ticket ≡ None
+    → nat_le m.capacity (length m.asked - m.taken) ≡ full → submit m r ≡ cond full (answer (NotSubmitted QueueFull) m) (answer (Submitted r.ticket) (let_in m (record { seen = x.seen; last = Some r.ticket }) r))
+queued m r x full at none is =
+    ap (submit_by m r) at
+    ∙ ap (unless_refused m x r) none
+    ∙ ap (λ (t : Bool). cond t (answer (NotSubmitted QueueFull) m) (answer (Submitted r.ticket) (let_in m (record { seen = x.seen; last = Some r.ticket }) r))) (ap (nat_le m.capacity) (length-drop m.taken m.asked) ∙ is)
 
--- .. but the queue is full
+-- .. where it is
 pub finds_full : (m : Machine) (r : Request) (x : Session) → slice_get m.sessions r.session ≡ Some x → refusal_on (board_at m x.seen) r.session (last_of m.starts r.session) x.last r.ticket ≡ None
     → m.capacity ≤ length m.asked - m.taken → submit m r ≡ answer (NotSubmitted QueueFull) m
-finds_full m r x at none full =
-    let long : length (waiting m) ≡ length m.asked - m.taken = length-drop m.taken m.asked in
-    let b : nat_le m.capacity (length (waiting m)) ≡ true = grind (arith, nat_tests) in
-    lets_in m r x at none ∙ ap (λ (t : Bool). cond t (answer (NotSubmitted QueueFull) m) (answer (Submitted r.ticket) (let_in m (record { seen = x.seen; last = Some r.ticket }) r))) b
+finds_full m r x at none full = queued m r x true at none (grind (arith, nat_tests))
 
--- .. and the queue has room
+-- .. and where it has room
 pub waits : (m : Machine) (r : Request) (x : Session) → slice_get m.sessions r.session ≡ Some x → refusal_on (board_at m x.seen) r.session (last_of m.starts r.session) x.last r.ticket ≡ None
     → length m.asked - m.taken < m.capacity → submit m r ≡ answer (Submitted r.ticket) (let_in m (record { seen = x.seen; last = Some r.ticket }) r)
-waits m r x at none room =
-    let long : length (waiting m) ≡ length m.asked - m.taken = length-drop m.taken m.asked in
-    let b : nat_le m.capacity (length (waiting m)) ≡ false = grind (arith, nat_tests) in
-    lets_in m r x at none ∙ ap (λ (t : Bool). cond t (answer (NotSubmitted QueueFull) m) (answer (Submitted r.ticket) (let_in m (record { seen = x.seen; last = Some r.ticket }) r))) b
+waits m r x at none room = queued m r x false at none (grind (arith, nat_tests))
 
 -- the board refuses it
 pub refuses : (m : Machine) (r : Request) (x : Session) (refused : SubmitRefused) → slice_get m.sessions r.session ≡ Some x → refusal_on (board_at m x.seen) r.session (last_of m.starts r.session) x.last r.ticket ≡ Some refused
@@ -79,8 +77,4 @@ hops m i at way there is =
 
 -- memory ran out, or the answer is that of the same with its board seen
 pub either : (a b : Answer) (m : Machine) (reply : Reply) (n : Machine) → a ≡ b → OrMemory b m reply n → OrMemory a m reply n
-either a b m reply n same is = by is
-  where
-    by : OrMemory b m reply n → OrMemory a m reply n
-    by (inl x) = inl (x.0 ∙ sym (ap (λ (y : Answer). y.reply) same), x.1 ∙ sym (ap (λ (y : Answer). y.after) same))
-    by (inr x) = inr x
+either a b m reply n same is = subst (λ (y : Answer). OrMemory y m reply n) (sym same) is

@@ -1,13 +1,12 @@
 -- The tickets of a world: a request that waits may be given to the desk.
-use Rattle.std.proofs.Common.{◌≡◌, ◌<◌, ◌≤◌, ℕ, zero, suc, Bool, true, false, cond, nat_le, nat_lt, List, [], ◌∷◌, ◌++◌, length, take, drop, set, get_or, replicate, Option, Some, None, slice_get, refl, sym, ap, ◌∙◌, subst, arith, ⊎_elim}
+use Rattle.std.proofs.Common.{◌≡◌, ◌<◌, ◌≤◌, ℕ, suc, List, [], ◌∷◌, ◌++◌, length, take, drop, set, get_or, replicate, Option, Some, None, slice_get, refl, sym, ap, ◌∙◌, subst, arith, ⊎_elim}
 use Rattle.std.specs.Option.{unwrap_or}
 use Rattle.std.proofs.Math.Seq.{drop-cons}
-use Rattle.std.proofs.lemmas.Bool.Decides.{nat_tests}
 use Rattle.std.proofs.lemmas.List.{take-append-drop, take-take}
-use Rattle.std.proofs.lemmas.Option.{slice_get_read, slice_get_within}
+use Rattle.std.proofs.lemmas.Option.{slice_get_read}
 use Rattle.graph_edits.specs.declared.edits.Op.{Op}
 use Rattle.requests.specs.declared.request.Request.{Request}
-use Rattle.requests.specs.Tickets.{sessions, worn_limit, last_of, raise, tickets_after}
+use Rattle.requests.specs.Tickets.{sessions, last_of, raise, tickets_after}
 use Rattle.requests.specs.Requests.{asked_by}
 use Rattle.requests.proofs.TicketLemmas.{either_same}
 use Rattle.layout_2.specs.State.{State, asked, IsNext, AreInTurn}
@@ -15,13 +14,15 @@ use Rattle.generations.specs.Boards.{BoardState}
 use Rattle.group_commit.specs.Laws.{TicketsStayBehind}
 use Rattle.group_commit.specs.Settling.{settle}
 use Rattle.group_commit.specs.Turns.{AreBehind}
-use Rattle.group_commit.proofs.TurnLemmas.{behind_at, behind_both, last_own, last_other, turn_push}
+use Rattle.group_commit.proofs.TurnLemmas.{behind_at, behind_both, last_own, last_other}
 use Rattle.intake.specs.declared.outcome.SubmitRefused.{SubmitRefused}
-use Rattle.intake.specs.declared.outcome.SubmitRefused.TheVariants.{Busy, AlreadyIn, OldTicket, Worn}
-use Rattle.intake.specs.Outcomes.{refusal_on, outcome_on, is_open}
-use Rattle.event_laws.proofs.Turns.{after_in_append, in_turn_first}
+use Rattle.intake.specs.Outcomes.{refusal_on}
 use Rattle.event_model.specs.declared.session.Session.{Session}
 use Rattle.event_model.specs.Machines.{Machine, board_at, fresh_session}
+use Rattle.event_laws.specs.Submits.{IsLastOf}
+use Rattle.event_laws.proofs.Every.{set_at, get_other}
+use Rattle.event_laws.proofs.Listing.{know_first}
+use Rattle.event_laws.proofs.Settled.{after_in_append, in_turn_first}
 use Rattle.interleave.specs.Stores.{AreLasts}
 
 -- ---- requests in turn, in parts
@@ -72,18 +73,6 @@ won_behind law state starts l held done taken turn behind split le =
 
 -- ---- submitting
 
--- what a board lets in is above the session's last ticket, or its start, and within the limit
-pub let_in_bounds : (b : BoardState) (s start : ℕ) (last : Option ℕ) (ticket : ℕ) → refusal_on b s start last ticket ≡ None → (unwrap_or last start < ticket) × (ticket ≤ worn_limit)
-let_in_bounds b s start last ticket none = by (is_open (outcome_on b s last)) (nat_le ticket (last_of b.accepted s)) (nat_le ticket (unwrap_or last start)) (nat_lt worn_limit ticket) refl refl none
-  where
-    by : (o a d w : Bool) → nat_le ticket (unwrap_or last start) ≡ d → nat_lt worn_limit ticket ≡ w
-        → cond o (Some Busy) (cond a (Some AlreadyIn) (cond d (Some OldTicket) (cond w (Some Worn) None))) ≡ None → (unwrap_or last start < ticket) × (ticket ≤ worn_limit)
-    by true a d w e f none = absurd (let z : ◌≡◌ {A = Option SubmitRefused} (Some Busy) None = none in cc)
-    by false true d w e f none = absurd (let z : ◌≡◌ {A = Option SubmitRefused} (Some AlreadyIn) None = none in cc)
-    by false false true w e f none = absurd (let z : ◌≡◌ {A = Option SubmitRefused} (Some OldTicket) None = none in cc)
-    by false false false true e f none = absurd (let z : ◌≡◌ {A = Option SubmitRefused} (Some Worn) None = none in cc)
-    by false false false false e f none = (grind (arith, nat_tests), grind (arith, nat_tests))
-
 -- what was read of a session, and of the board that it sees, lets a request in
 pub lets_in_as_read : (m : Machine) (r : Request) (x : Session) (board : BoardState) (start : ℕ) (refused : Option SubmitRefused) → r.session < length m.sessions → x ≡ get_or m.sessions r.session x
     → board ≡ board_at m x.seen → start ≡ last_of m.starts r.session → refused ≡ refusal_on board r.session start x.last r.ticket → refused ≡ None
@@ -98,54 +87,26 @@ lets_in_as_read m r x board start refused within is sees starts answered none =
 pub with_copy : (old new : List Request) (r : Request) (copy : List Op) → new ≡ old ++ record r { change = copy } ∷ [] → copy ≡ r.change → new ≡ old ++ r ∷ []
 with_copy old new r copy is same = is ∙ ap (λ (change : List Op). old ++ record r { change = change } ∷ []) same
 
--- a request that is let in is in turn behind all others
-pub let_in_turn : (starts : List ℕ) (l : List Request) (xs : List Session) (x : Session) (r : Request) → AreInTurn starts l → AreLasts starts l xs → slice_get xs r.session ≡ Some x → length xs ≤ sessions
-    → unwrap_or x.last (last_of starts r.session) < r.ticket → r.ticket ≤ worn_limit → AreInTurn starts (l ++ r ∷ [])
-let_in_turn starts l xs x r turn lasts at few above fits =
-    let last = lasts r.session x at in
-    let within = slice_get_within xs r.session x at in
-    turn_push starts l r turn (omega (arith, within, few), omega (arith, last, above), fits)
+-- one session is written, which has the last ticket of its own, and no other has a later one
+lasts_set : (starts : List ℕ) (old new : List Request) (xs : List Session) (i : ℕ) (y : Session) → AreLasts starts old xs → IsLastOf starts new i y.last
+    → ((s : ℕ) → (i ≡ s → ⊥) → last_of (tickets_after starts (asked new)) s ≡ last_of (tickets_after starts (asked old)) s) → AreLasts starts new (set xs i y)
+lasts_set starts old new xs i y lasts own others s x at = ⊎_elim
+    (λ same.
+    let is : y ≡ x = set_at xs i y x (ap (slice_get (set xs i y)) same ∙ at) in
+    subst (λ (p : ℕ × Session). IsLastOf starts new p.0 p.1.last) (λ j. (same j, is j)) own)
+    (λ other. lasts s x (sym (get_other xs s i y (λ e. other (sym e))) ∙ at) ∙ sym (others s other))
+    (either_same i s)
 
--- the places of sessions, one of which is written
-at_place : (xs : List Session) (i : ℕ) (y x : Session) → slice_get (set xs i y) i ≡ Some x → y ≡ x
-at_place [] i y x e = absurd (let z : ◌≡◌ {A = Option Session} None (Some x) = e in cc)
-at_place (z ∷ xs) zero y x e = let f : ◌≡◌ {A = Option Session} (Some y) (Some x) = e in cc
-at_place (z ∷ xs) (suc i) y x e = at_place xs i y x e
-
-at_other : (xs : List Session) (i s : ℕ) (y : Session) → (s ≡ i → ⊥) → slice_get (set xs i y) s ≡ slice_get xs s
-at_other [] i s y other = refl
-at_other (z ∷ xs) zero zero y other = absurd (other refl)
-at_other (z ∷ xs) zero (suc s) y other = refl
-at_other (z ∷ xs) (suc i) zero y other = refl
-at_other (z ∷ xs) (suc i) (suc s) y other = at_other xs i s y (λ e. other (ap suc e))
-
--- and its session's last ticket is its own
+-- a session that is let in has its last ticket
 pub let_in_lasts : (starts : List ℕ) (l : List Request) (xs : List Session) (y : Session) (r : Request) → length starts ≡ sessions → AreLasts starts l xs → r.session < sessions → y.last ≡ Some r.ticket
     → AreLasts starts (l ++ r ∷ []) (set xs r.session y)
-let_in_lasts starts l xs y r wide lasts here own s x at = ⊎_elim
-    (λ same.
-    let is : y ≡ x = at_place xs r.session y x (subst (λ (k : ℕ). slice_get (set xs r.session y) k ≡ Some x) (sym same) at) in
-    let ticket : unwrap_or x.last (last_of starts s) ≡ r.ticket = ap (λ (z : Session). unwrap_or z.last (last_of starts s)) (sym is) ∙ ap (λ o. unwrap_or o (last_of starts s)) own in
-    ticket ∙ sym (last_own starts l r s wide here same))
-    (λ other. lasts s x (sym (at_other xs r.session s y (λ e. other (sym e))) ∙ at) ∙ sym (last_other starts l r s other))
-    (either_same r.session s)
+let_in_lasts starts l xs y r wide lasts here own =
+    lasts_set starts l (l ++ r ∷ []) xs r.session y lasts (ap (λ o. unwrap_or o (last_of starts r.session)) own ∙ sym (last_own starts l r r.session wide here refl)) (last_other starts l r)
 
 -- a session that looks asks for nothing
 pub look_lasts : (starts : List ℕ) (l : List Request) (xs : List Session) (i : ℕ) (x y : Session) → AreLasts starts l xs → slice_get xs i ≡ Some x → y.last ≡ x.last → AreLasts starts l (set xs i y)
-look_lasts starts l xs i x y lasts there own s z at = ⊎_elim
-    (λ same.
-    let is : y ≡ z = at_place xs i y z (subst (λ (k : ℕ). slice_get (set xs i y) k ≡ Some z) (sym same) at) in
-    let last : z.last ≡ x.last = ap (λ (w : Session). w.last) (sym is) ∙ own in
-    ap (λ o. unwrap_or o (last_of starts s)) last ∙ lasts s x (subst (λ (k : ℕ). slice_get xs k ≡ Some x) same there))
-    (λ other. lasts s z (sym (at_other xs i s y (λ e. other (sym e))) ∙ at))
-    (either_same i s)
-
--- each place of a list of fresh sessions
-none_asked : (n s : ℕ) (x : Session) → slice_get (replicate n fresh_session) s ≡ Some x → fresh_session ≡ x
-none_asked zero s x at = absurd (let z : ◌≡◌ {A = Option Session} None (Some x) = at in cc)
-none_asked (suc n) zero x at = let is : ◌≡◌ {A = Option Session} (Some fresh_session) (Some x) = at in cc
-none_asked (suc n) (suc s) x at = none_asked n s x at
+look_lasts starts l xs i x y lasts there own = lasts_set starts l l xs i y lasts (ap (λ o. unwrap_or o (last_of starts i)) own ∙ lasts i x there) (λ s other. refl)
 
 -- before any asks
 pub fresh_lasts : (starts : List ℕ) (n : ℕ) → AreLasts starts [] (replicate n fresh_session)
-fresh_lasts starts n s x at = ap (λ (z : Session). unwrap_or z.last (last_of starts s)) (sym (none_asked n s x at))
+fresh_lasts starts n s x at = ap (λ o. unwrap_or o (last_of starts s)) (know_first n s x at).1

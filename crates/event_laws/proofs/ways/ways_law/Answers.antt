@@ -1,7 +1,6 @@
 use Rattle.event_laws.proofs.Known.{Laws}
 use Rattle.event_laws.proofs.Runs.{begun_are, events_keep, rebuilds_keep, runs_keep, ways_are}
-use Rattle.event_laws.proofs.Gone.{gone_stay_gone}
-use Rattle.event_laws.proofs.Arriving.{hopped_arrive}
+use Rattle.event_laws.proofs.Arriving.{gone_stay_gone, hopped_arrive}
 use Rattle.event_laws.proofs.ways.ways_law.Goals as goal
 
 pub returns : goal.returns

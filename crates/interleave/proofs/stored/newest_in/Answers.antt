@@ -4,7 +4,7 @@ use Rattle.generations.specs.declared.posting.Posting.{Posting}
 use Rattle.generations.specs.Notices.{notice_of}
 use Rattle.event_model.specs.Answers.{newest_number}
 use Rattle.interleave.specs.Stores.{newer}
-use Rattle.interleave.proofs.Newest.{newest_push}
+use Rattle.interleave.proofs.Parts.{newest_push}
 use Rattle.interleave.proofs.stored.newest_in.Goals as goal
 
 pub loop-posting-preserved : goal.loop-posting-preserved

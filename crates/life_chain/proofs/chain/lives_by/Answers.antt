@@ -1,5 +1,5 @@
 use Rattle.life_chain.specs.Lived.{AreLived}
-use Rattle.life_chain.proofs.ChainLemmas.{are_sound, first_opened, last_refused, are_chained, exactly_once}
+use Rattle.life_chain.proofs.LifeLemmas.{are_sound, first_opened, last_refused, are_chained, exactly_once}
 use Rattle.life_chain.proofs.chain.lives_by.Goals as goal
 
 pub returns-in-Ok-clause-told : goal.returns-in-Ok-clause-told

@@ -5,7 +5,7 @@ use Rattle.life_chain.specs.declared.report.LifeReport.{LifeReport}
 use Rattle.life_chain.specs.Rooms.{HaveRooms}
 use Rattle.life_chain.specs.Lived.{AreLived}
 use Rattle.life_chain.proofs.RoomLemmas.{first_room}
-use Rattle.life_chain.proofs.ChainLemmas.{one_more, up_to}
+use Rattle.life_chain.proofs.LifeLemmas.{one_more, up_to}
 use Rattle.life_chain.proofs.chain.lives_in.Goals as goal
 
 pub loop-life-init : goal.loop-life-init

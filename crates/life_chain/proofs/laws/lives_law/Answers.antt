@@ -1,7 +1,7 @@
 use Rattle.life_chain.specs.Words.{IsLeftByWord, any_word}
 use Rattle.life_chain.specs.Sound.{IsNotOpened, IsSound}
 use Rattle.life_chain.specs.Lived.{IsLived, IsRefusedOpening}
-use Rattle.life_chain.proofs.ChainLemmas.{are_one, are_next}
+use Rattle.life_chain.proofs.LifeLemmas.{are_one, are_next}
 use Rattle.life_chain.proofs.laws.lives_law.Goals as goal
 
 pub returns : goal.returns

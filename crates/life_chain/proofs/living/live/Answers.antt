@@ -23,9 +23,9 @@ use Rattle.life_chain.specs.declared.life.Life.{Life}
 use Rattle.life_chain.specs.declared.report.LifeReport.{LifeReport}
 use Rattle.life_chain.specs.Reports.{opened_of}
 use Rattle.life_chain.specs.Sound.{HasCrashed}
-use Rattle.life_chain.proofs.GroupLemmas.{life_fits}
-use Rattle.life_chain.proofs.LifeLemmas.{Counted, lived_is, counted_is, served, serves_opened, safe_is, all_as, read_same, handed_is, by_parts}
-use Rattle.life_chain.proofs.ChainLemmas.{tells}
+use Rattle.life_chain.proofs.EventLemmas.{life_fits}
+use Rattle.event_laws.proofs.Every.{all_as}
+use Rattle.life_chain.proofs.LifeLemmas.{Counted, lived_is, counted_is, served, serves_opened, safe_is, read_same, handed_is, by_parts, tells}
 use Rattle.life_chain.proofs.living.live.Goals as goal
 
 pub returns-in-Err-clause-refused : goal.returns-in-Err-clause-refused

@@ -6,7 +6,7 @@ use Rattle.event_model.specs.Trips.{Trip, hop_reply, hop_way}
 use Rattle.interleave.specs.declared.stored.Way.{Way}
 use Rattle.interleave.specs.Stores.{trip_of}
 use Rattle.interleave.specs.WorldWords.{machine_of}
-use Rattle.interleave.proofs.Ways.{next_ways, same_ways, is_there}
+use Rattle.interleave.proofs.Parts.{next_ways, same_ways, is_there}
 use Rattle.interleave.proofs.world.World.carry_on.Goals as goal
 
 pub returns-then-is_err-clause-answers : goal.returns-then-is_err-clause-answers

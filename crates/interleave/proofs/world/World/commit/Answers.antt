@@ -15,7 +15,7 @@ use Rattle.group_commit.specs.DeskWords.{store_of, held_of}
 use Rattle.event_laws.specs.History.{settled}
 use Rattle.event_laws.specs.Happenings.{state_held, IsEither, won, lost}
 use Rattle.interleave.specs.WorldWords.{lists_of, world_view}
-use Rattle.interleave.proofs.Lists.{lists_are, none_left}
+use Rattle.interleave.proofs.Parts.{lists_are, none_left}
 use Rattle.interleave.proofs.Tickets.{won_behind}
 use Rattle.interleave.proofs.world.World.commit.Goals as goal
 

@@ -13,8 +13,7 @@ use Rattle.event_model.specs.Machines.{Machine}
 use Rattle.event_model.specs.Runs.{Run}
 use Rattle.interleave.specs.WorldWords.{lists_of, machine_of, world_store, world_view}
 use Rattle.interleave.specs.Crashes.{HasWorlds, moment_at}
-use Rattle.interleave.proofs.Going.{none_yet, one_more, safe_each}
-use Rattle.interleave.proofs.Desks.{desks_run}
+use Rattle.interleave.proofs.Going.{none_yet, one_more, safe_each, desks_run}
 use Rattle.interleave.proofs.world.World.run_into.Goals as goal
 
 pub loop-event-init : goal.loop-event-init

@@ -3,7 +3,7 @@ use Rattle.std.proofs.lemmas.List.{take-append-le, length-set}
 use Rattle.std.proofs.Math.Nat.{le_trans}
 use Rattle.checkpoint.specs.StoreWords.{state_of}
 use Rattle.requests.specs.declared.request.Request.{Request}
-use Rattle.requests.specs.Tickets.{sessions, last_of, tickets_after}
+use Rattle.requests.specs.Tickets.{sessions, tickets_after}
 use Rattle.layout_2.specs.State.{asked, AreInTurn}
 use Rattle.group_commit.specs.DeskWords.{store_of}
 use Rattle.group_commit.specs.Turns.{AreBehind}
@@ -12,10 +12,11 @@ use Rattle.event_model.specs.declared.session.Session.{Session}
 use Rattle.event_model.specs.declared.reply.Reply.TheVariants.{Submitted, NotSubmitted}
 use Rattle.event_model.specs.Machines.{Machine, board_at, let_in}
 use Rattle.event_model.specs.Answers.{answer, submit}
+use Rattle.event_laws.proofs.Refusing.{let_in_turn}
 use Rattle.interleave.specs.Stores.{AreLasts}
 use Rattle.interleave.specs.WorldWords.{machine_of}
 use Rattle.interleave.proofs.Steps.{answered, finds_full, waits}
-use Rattle.interleave.proofs.Tickets.{let_in_bounds, lets_in_as_read, with_copy, let_in_turn, let_in_lasts}
+use Rattle.interleave.proofs.Tickets.{lets_in_as_read, with_copy, let_in_lasts}
 use Rattle.interleave.proofs.world.World.submit.Goals as goal
 
 pub returns-then-len-self-clause-answers : goal.returns-then-len-self-clause-answers
@@ -61,9 +62,9 @@ invariant_of-self-2-clause-in_turn g c =
     let x : Session = c.index.result.now in
     let is = lets_in_as_read m r x c.in-Ok.board c.start_of-start.result c.refusal_of.result (omega (arith, c.if-place-len.false, c.len.ensures, world.stored.sessions.ok.0)) c.index.ensures
     c.in-Ok.ensures c.start_of-start.ensures c.refusal_of.ensures (search rules) in
-    let bounds = let_in_bounds (board_at m x.seen) r.session (last_of m.starts r.session) x.last r.ticket is.1 in
     let all = with_copy m.asked c.push.new.self.items r c.copy.result (search rules) c.copy.ensures in
-    subst (λ (l : List Request). AreInTurn m.starts l) (sym all) (let_in_turn m.starts m.asked m.sessions x r world.in_turn world.lasts is.0 world.few bounds.0 bounds.1)
+    subst (λ (l : List Request). AreInTurn m.starts l) (sym all)
+    (let_in_turn m.starts m.asked (board_at m x.seen) x.last r world.in_turn (omega (arith, c.if-place-len.false, c.len.ensures, world.stored.sessions.ok.0, world.few)) (world.lasts r.session x is.0) is.1)
 
 pub invariant_of-self-2-clause-lasts : goal.invariant_of-self-2-clause-lasts
 invariant_of-self-2-clause-lasts g c =
