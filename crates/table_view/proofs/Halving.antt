@@ -1,7 +1,7 @@
 -- A look-up by halving among the roots of entries in bytes.
-use Rattle.std.proofs.Common.{◌≡◌, ◌⊎◌, ℕ, ◌+◌, ◌-◌, ◌<◌, ◌≤◌, List, subst, arith, inl, inr}
+use Rattle.std.proofs.Common.{◌≡◌, ℕ, ◌+◌, ◌-◌, ◌<◌, ◌≤◌, List, subst, arith, inl, inr}
 use Rattle.std.proofs.lemmas.Bool.{cases_lt}
-use Rattle.table_view.specs.Parts.{DoRise, IsHalved, root_of}
+use Rattle.table_view.specs.Parts.{IsHalved, root_of}
 
 module _ (entries : List ℕ) (count root base size step : ℕ) (h : IsHalved entries count root base size) (some : 0 < step) (few : step < size) where
   -- the places from a step on
@@ -19,11 +19,8 @@ module _ (entries : List ℕ) (count root base size step : ℕ) (h : IsHalved en
     some = some;
     within = omega (arith, h.within, few);
     below = h.below;
-    above = λ rise i from lt. go rise i from lt (cases_lt (base + step) i);
+    above = λ rise i from lt. elim (cases_lt (base + step) i) [
+      | inl past ↦ (let up = rise (base + step) i past lt in omega (arith, up, gt))
+      | inr le ↦ (let same : base + step ≡ i = omega (arith, from, le) in subst (λ j. root < root_of entries j) same gt)
+    ];
   }
-    where
-      go : DoRise entries count → (i : ℕ) → base + step ≤ i → i < count → (base + step < i) ⊎ (i ≤ base + step) → root < root_of entries i
-      go rise i from lt (inl past) = (let up = rise (base + step) i past lt in omega (arith, up, gt))
-      go rise i from lt (inr le) =
-          let same : base + step ≡ i = omega (arith, from, le) in
-          subst (λ j. root < root_of entries j) same gt

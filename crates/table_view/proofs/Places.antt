@@ -1,30 +1,26 @@
 -- The parts of bytes that spell a table.
-use Rattle.std.proofs.Common.{◌≡◌, ℕ, zero, suc, ◌+◌, ◌-◌, ◌*◌, ◌^◌, ◌<◌, false, ltb, List, [], ◌∷◌, ◌++◌, length, get_or, take, drop, Some, None, refl, sym, ap, subst, ◌∙◌, append_assoc, arith}
+use Rattle.std.proofs.Common.{◌≡◌, ℕ, zero, suc, ◌+◌, ◌*◌, ◌^◌, ◌<◌, false, ltb, List, [], ◌∷◌, ◌++◌, length, get_or, drop, Option, Some, None, refl, sym, ap, ◌∙◌, append_assoc, arith}
+use Rattle.std.specs.Int.{w16}
 use Rattle.std.specs.List.{flat_map}
 use Rattle.std.proofs.lemmas.Bool.{le-ltb}
-use Rattle.std.proofs.lemmas.List.{drop-drop, drop_at, get_or-drop, length-append, take_at, take_rest}
+use Rattle.std.proofs.lemmas.List.{drop-drop, drop_at, get_or-drop, length-append, take_at}
 use Rattle.std.proofs.lemmas.List.Concat.{flat_map-cons}
 use Rattle.std.proofs.lemmas.Nat.{from_be_bytes-to_be_bytes_2}
 use Rattle.std.proofs.lemmas.Option.{none-some, same_Some}
 use Rattle.std.proofs.Math.Nat.{mul-suc}
-use Rattle.packet_bytes.specs.Spelling.{SpellsAddress, address_text}
-use Rattle.packet_bytes.proofs.Spellings.{addresses_are_read, one_address}
-use Rattle.packet_bytes.specs.Refusals.{address_refusal}
-use Rattle.packet_bytes.specs.declared.wire.WireRefused.{WireRefused}
-use Rattle.schemes.specs.declared.packet.Address.{Address}
 use Rattle.router_table.specs.declared.head.Head.{Head}
 use Rattle.router_table.specs.Order.{IsHead}
-use Rattle.router_table.specs.Reading.{numbers_at}
+use Rattle.router_table.specs.MemberForm.{member_at, member_is_form}
 use Rattle.router_table.specs.Refusals.{entry_size, head_size}
 use Rattle.byte_forms.specs.Forms.{list_text}
 use Rattle.router_table.specs.Spelling.{SpellsTable, body_text, digest_of, entry_text, head_text, lists_text, member_text, number, router_text}
-use Rattle.router_table.specs.Table.{Table, address_of}
-use Rattle.router_table.proofs.BodyTexts.{head_front, length_head, router_again, spells}
+use Rattle.router_table.specs.Table.{Table}
+use Rattle.router_table.proofs.BodyTexts.{length_head}
 use Rattle.router_table.proofs.FormTexts.{length_entry, length_number}
 use Rattle.router_table.proofs.Fits.{few_entries, few_members, few_ports, members_fit}
-use Rattle.byte_forms.specs.FormLaws.{length_items, u16_is_form}
-use Rattle.byte_forms.specs.Reading.{u16_of}
-use Rattle.table_view.specs.Parts.{IsDirectory, PartsOf, cut_at, items_cut, parts_at}
+use Rattle.byte_forms.specs.FormLaws.{length_items, list_is_form, u16_is_form}
+use Rattle.byte_forms.specs.Reading.{list_at, number_at, u16_of}
+use Rattle.table_view.specs.Parts.{PartsOf, cut_at, items_cut, parts_at}
 
 -- ---- fronts
 
@@ -46,8 +42,11 @@ items_front text size each xs t few =
 abbrev pub behind_entries : Table → List ℕ
 behind_entries a = list_text member_text a.directory ++ digest_of (body_text a)
 
-parts_are : (bytes : List ℕ) (a : Table) → SpellsTable bytes a
-    → parts_at bytes ≡ Some (head_text a.head, length a.ports, flat_map number a.ports, length a.entries, flat_map entry_text a.entries, behind_entries a)
+-- the parts of a table
+abbrev pub parts_text : Table → PartsOf
+parts_text a = (head_text a.head, length a.ports, flat_map number a.ports, length a.entries, flat_map entry_text a.entries, behind_entries a)
+
+parts_are : (bytes : List ℕ) (a : Table) → SpellsTable bytes a → parts_at bytes ≡ Some (parts_text a)
 unfolding parts_at body_text lists_text
 parts_are bytes a spelled =
     let ok = spelled.fits in
@@ -65,41 +64,19 @@ parts_are bytes a spelled =
       items_front entry_text entry_size length_entry a.entries (directory ++ digest) (few_entries a ok),
     ) refl
 
--- the parts of a table
-pub record ArePartsOf (a : Table) (p : PartsOf) : Type 0 where
-  pub head : p.0 ≡ head_text a.head
-  pub port_count : p.1 ≡ length a.ports
-  pub ports : p.2 ≡ flat_map number a.ports
-  pub entry_count : p.3 ≡ length a.entries
-  pub entries : p.4 ≡ flat_map entry_text a.entries
-  pub behind : p.5 ≡ behind_entries a
-
-pub its_parts : (bytes : List ℕ) (a : Table) (p : PartsOf) → SpellsTable bytes a → parts_at bytes ≡ Some p → ArePartsOf a p
-its_parts bytes a p spelled found =
-    let e = same_Some {A = PartsOf} _ _ (sym found ∙ parts_are bytes a spelled) in
-    record {
-      head = ap (λ (q : PartsOf). q.0) e;
-      port_count = ap (λ (q : PartsOf). q.1) e;
-      ports = ap (λ (q : PartsOf). q.2) e;
-      entry_count = ap (λ (q : PartsOf). q.3) e;
-      entries = ap (λ (q : PartsOf). q.4) e;
-      behind = ap (λ (q : PartsOf). q.5) e;
-    }
+pub its_parts : (bytes : List ℕ) (a : Table) (p : PartsOf) → SpellsTable bytes a → parts_at bytes ≡ Some p → p ≡ parts_text a
+its_parts bytes a p spelled found = same_Some {A = PartsOf} p (parts_text a) (sym found ∙ parts_are bytes a spelled)
 
 pub has_parts : (bytes : List ℕ) (a : Table) → SpellsTable bytes a → parts_at bytes ≡ None → ⊥
 has_parts bytes a spelled none = none-some _ (sym none ∙ parts_are bytes a spelled)
 
 -- ---- numbers
 
-pub u16_again : (n : ℕ) (rest : List ℕ) → n < 2 ^ 16 → u16_of (number n ++ rest) 0 ≡ n
-u16_again n rest lt = from_be_bytes-to_be_bytes_2 n lt
-
-pub u16_behind : (bytes : List ℕ) (at : ℕ) → u16_of bytes at ≡ u16_of (drop at bytes) 0
-u16_behind bytes at =
-    let here : at + 0 ≡ at = omega arith in
-    let first : get_or (drop at bytes) 0 0 ≡ get_or bytes at 0 = get_or-drop at bytes 0 0 ∙ ap (λ k. get_or bytes k 0) here in
-    let second : get_or (drop at bytes) 1 0 ≡ get_or bytes (at + 1) 0 = get_or-drop at bytes 1 0 in
-    rw (first, second) refl
+pub u16_behind : (bytes : List ℕ) (n at : ℕ) → u16_of bytes (n + at) ≡ u16_of (drop n bytes) at
+u16_behind bytes n at =
+    let there : n + (at + 1) ≡ n + at + 1 = omega arith in
+    let second : get_or (drop n bytes) (at + 1) 0 ≡ get_or bytes (n + at + 1) 0 = get_or-drop n bytes (at + 1) 0 ∙ ap (λ k. get_or bytes k 0) there in
+    rw (get_or-drop n bytes at 0, second) refl
 
 pub nodes_in : (h : Head) → IsHead h → u16_of (head_text h) 16 ≡ h.nodes
 unfolding head_text router_text
@@ -109,37 +86,20 @@ pub node_in : (h : Head) → IsHead h → u16_of (head_text h) 18 ≡ h.node
 unfolding head_text router_text
 node_in h ok = from_be_bytes-to_be_bytes_2 h.node (omega (arith, ok.node, ok.nodes))
 
-abbrev pub Numbers : Type 0
-Numbers = ℕ × ℕ × ℕ × List ℕ
+-- ---- what stands in the parts
 
--- who the router is
-pub record AreNumbersOf (h : Head) (x : Numbers) : Type 0 where
-  pub generation : x.0 ≡ h.generation
-  pub nodes : x.1 ≡ h.nodes
-  pub node : x.2 ≡ h.node
+-- the head that is read out of the parts
+pub head_read : (bytes : List ℕ) (p : PartsOf) (a : Table) → parts_at bytes ≡ Some p → SpellsTable bytes a → (o : Option Head) → ((h : Head) → IsHead h → p.0 ≡ head_text h → o ≡ Some h) → o ≡ Some a.head
+head_read bytes p a found spelled o read = read a.head spelled.fits.head (ap (λ (q : PartsOf). q.0) (its_parts bytes a p spelled found))
 
-numbers_are : (h : Head) → IsHead h → numbers_at (drop 8 (head_text h)) ≡ Some (h.generation, h.nodes, h.node, address_text (address_of h))
-numbers_are h ok = ap numbers_at (head_front h).1 ∙ router_again h ok
+module _ (bytes : List ℕ) (p : PartsOf) (a : Table) (found : parts_at bytes ≡ Some p) (spelled : SpellsTable bytes a) where
+  pub members_read : list_at member_at p.5 ≡ Some (a.directory, digest_of (body_text a))
+  members_read = ap (λ (q : PartsOf). list_at member_at q.5) (its_parts bytes a p spelled found) ∙ (list_is_form member_is_form).again a.directory (digest_of (body_text a)) (few_members a spelled.fits, members_fit a spelled.fits)
 
-pub its_numbers : (h : Head) (x : Numbers) → IsHead h → numbers_at (drop 8 (head_text h)) ≡ Some x → AreNumbersOf h x
-its_numbers h x ok found =
-    let e = same_Some {A = Numbers} _ _ (sym found ∙ numbers_are h ok) in
-    record { generation = ap (λ (y : Numbers). y.0) e; nodes = ap (λ (y : Numbers). y.1) e; node = ap (λ (y : Numbers). y.2) e }
-
-pub has_numbers : (h : Head) → IsHead h → numbers_at (drop 8 (head_text h)) ≡ None → ⊥
-has_numbers h ok none = none-some _ (sym none ∙ numbers_are h ok)
-
--- ---- addresses
-
-address_there : (h : Head) → drop 20 (head_text h) ≡ address_text (address_of h)
-unfolding head_text router_text
-address_there h = refl
-
-pub its_address : (h : Head) (a : Address) → IsHead h → SpellsAddress (drop 20 (head_text h)) a → a ≡ address_of h
-its_address h a ok spelled = one_address (address_text (address_of h)) a (address_of h) (subst (λ (t : List ℕ). SpellsAddress t a) (address_there h) spelled) (spells h ok)
-
-pub has_address : (h : Head) (e : WireRefused) → IsHead h → address_refusal (drop 20 (head_text h)) ≡ Some e → ⊥
-has_address h e ok refused = none-some e (sym (addresses_are_read (address_text (address_of h)) (address_of h) (spells h ok)) ∙ ap address_refusal (sym (address_there h)) ∙ refused)
+  pub count_read : number_at w16 p.5 ≡ Some (length a.directory, flat_map member_text a.directory ++ digest_of (body_text a))
+  count_read =
+      let regrouped = append_assoc (number (length a.directory)) (flat_map member_text a.directory) (digest_of (body_text a)) in
+      ap (λ (q : PartsOf). number_at w16 q.5) (its_parts bytes a p spelled found) ∙ ap (number_at w16) regrouped ∙ u16_is_form.again (length a.directory) (flat_map member_text a.directory ++ digest_of (body_text a)) (few_members a spelled.fits)
 
 -- ---- items of one size
 
@@ -154,27 +114,11 @@ item_front text size each (x ∷ xs) (suc i) d lt =
     let past : drop size (flat_map text (x ∷ xs)) ≡ flat_map text xs = ap (λ (t : List ℕ). drop size t) (flat_map-cons text x xs) ∙ drop_at (text x) (flat_map text xs) size (each x) in
     ap (λ k. drop k (flat_map text (x ∷ xs))) there ∙ sym (drop-drop (size * i) size (flat_map text (x ∷ xs))) ∙ ap (λ (t : List ℕ). drop (size * i) t) past ∙ item_front text size each xs i d (omega (arith, lt))
 
--- ---- out of the parts
-
--- the bytes from a place on, as a slice has them
-abbrev pub from_on : ℕ → List ℕ → List ℕ
-from_on n bytes = take (length bytes - n) (drop n bytes)
-
-module _ (bytes : List ℕ) (p : PartsOf) (a : Table) (found : parts_at bytes ≡ Some p) (spelled : SpellsTable bytes a) where
-  head_is : p.0 ≡ head_text a.head
-  head_is = (its_parts bytes a p spelled found).head
-
-  pub numbers_out : (x : Numbers) → numbers_at (from_on 8 p.0) ≡ Some x → AreNumbersOf a.head x
-  numbers_out x e = its_numbers a.head x spelled.fits.head (ap (λ (t : List ℕ). numbers_at (drop 8 t)) (sym head_is) ∙ ap numbers_at (sym (take_rest p.0 8)) ∙ e)
-
-  pub no_numbers_out : numbers_at (from_on 8 p.0) ≡ None → ⊥
-  no_numbers_out e = has_numbers a.head spelled.fits.head (ap (λ (t : List ℕ). numbers_at (drop 8 t)) (sym head_is) ∙ ap numbers_at (sym (take_rest p.0 8)) ∙ e)
-
-  pub address_out : (to : Address) → SpellsAddress (from_on 20 p.0) to → to ≡ address_of a.head
-  address_out to is = its_address a.head to spelled.fits.head (subst (λ (t : List ℕ). SpellsAddress t to) (take_rest p.0 20 ∙ ap (λ (t : List ℕ). drop 20 t) head_is) is)
-
-  pub no_address_out : (e : WireRefused) → address_refusal (from_on 20 p.0) ≡ Some e → ⊥
-  no_address_out e refused = has_address a.head e spelled.fits.head (ap (λ (t : List ℕ). address_refusal (drop 20 t)) (sym head_is) ∙ ap address_refusal (sym (take_rest p.0 20)) ∙ refused)
-
-  pub directory_out : IsDirectory p.5 a.directory (digest_of (body_text a))
-  directory_out = record { few = few_members a spelled.fits; fit = members_fit a spelled.fits; text = (its_parts bytes a p spelled found).behind }
+-- the number that an item begins with
+pub u16_item : {X : Type 0} (text : X → List ℕ) (size : ℕ) → ((x : X) → length (text x) ≡ size) → (xs : List X) (i : ℕ) (d : X) → i < length xs
+    → (n : ℕ) (tail : List ℕ) → n < 2 ^ 16 → text (get_or xs i d) ≡ number n ++ tail → u16_of (flat_map text xs) (size * i) ≡ n
+u16_item text size each xs i d lt n tail fits is =
+    let rest = flat_map text (drop (suc i) xs) in
+    let at : size * i ≡ size * i + 0 = omega arith in
+    ap (λ k. u16_of (flat_map text xs) k) at ∙ u16_behind (flat_map text xs) (size * i) 0
+    ∙ ap (λ (t : List ℕ). u16_of t 0) (item_front text size each xs i d lt ∙ ap (λ (t : List ℕ). t ++ rest) is ∙ append_assoc (number n) tail rest) ∙ from_be_bytes-to_be_bytes_2 n fits

@@ -1,34 +1,48 @@
 -- Lists in bytes that are in order.
-use Rattle.std.specs.Prelude.{◌≡◌, ℕ, ◌+◌, ◌≤◌, ◌<◌, List, [], ◌∷◌, length, Option, Some}
+use Rattle.std.specs.Prelude.{◌≡◌, ℕ, zero, suc, ◌+◌, ◌≤◌, ◌<◌, List, [], Option, Some}
+use Rattle.std.specs.Int.{w16}
+use Rattle.packet_bytes.specs.Spelling.{IsLabel}
+use Rattle.byte_forms.specs.Reading.{number_at}
 use Rattle.router_table.specs.declared.head.Head.{Head}
-use Rattle.router_table.specs.Order.{AreLists, IsTable}
-use Rattle.byte_forms.specs.Reading.{items_at, list_at}
-use Rattle.router_table.specs.Reading.{lists_at}
+use Rattle.router_table.specs.EntryForm.{entry_at}
+use Rattle.router_table.specs.MemberForm.{member_at}
+use Rattle.router_table.specs.Order.{IsRecord, IsTable}
 use Rattle.router_table.specs.Spelling.{body_text}
 use Rattle.router_table.specs.Table.{Table}
 
--- numbers rise from the least one that may come, below a limit, and each item is good
-abbrev pub Rise : {X : Type 0} → (X → ℕ) → (X → Type 0) → ℕ → ℕ → List X → Type 0
-Rise key good limit least [] = Unit {0}
-Rise key good limit least (x ∷ xs) = (least ≤ key x) × (key x < limit) × good x × Rise key good limit (key x + 1) xs
-
--- so many items that rise stand at the front, and the bytes behind them
+-- So many items stand at the front, and the bytes behind them: their numbers rise from the least one that may come, below a limit, and each
+-- is good.
 abbrev pub AreItemsIn : {X : Type 0} → (List ℕ → Option (X × List ℕ)) → (X → ℕ) → (X → Type 0) → ℕ → ℕ → ℕ → List ℕ → List ℕ → Type 0
-AreItemsIn {X} found key good limit least n bytes rest = (xs : List X) × (items_at found n bytes ≡ Some (xs, rest)) × Rise key good limit least xs
+AreItemsIn {X} found key good limit least zero bytes rest = bytes ≡ rest
+AreItemsIn {X} found key good limit least (suc n) bytes rest =
+    (x : X) × (after : List ℕ) × (found bytes ≡ Some (x, after)) × (least ≤ key x) × (key x < limit) × good x × AreItemsIn found key good limit (key x + 1) n after rest
 
 -- a list whose items rise stands at the front: so many, and the bytes behind it
 pub record IsListIn {X : Type 0} (found : List ℕ → Option (X × List ℕ)) (key : X → ℕ) (good : X → Type 0) (limit : ℕ) (bytes : List ℕ) (count : ℕ) (rest : List ℕ) : Type 0 where
-  pub items : List X
-  pub read : list_at found bytes ≡ Some (items, rest)
-  pub rise : Rise key good limit 0 items
-  pub many : length items ≡ count
+  pub first : List ℕ
+  pub number : number_at w16 bytes ≡ Some (count, first)
+  pub items : AreItemsIn found key good limit 0 count first rest
 
--- the lists of a table with this head, in order
+-- the ports, the entries and the members of a table, in a network of so many nodes; entries of a node with so many ports
+abbrev pub ArePortsIn : ℕ → List ℕ → ℕ → List ℕ → Type 0
+ArePortsIn nodes bytes count rest = IsListIn (number_at w16) (λ port. port) (λ port. Unit {0}) nodes bytes count rest
+
+abbrev pub AreEntriesIn : ℕ → ℕ → List ℕ → ℕ → List ℕ → Type 0
+AreEntriesIn nodes ports bytes count rest = IsListIn entry_at (λ e. e.root) (λ e. IsRecord ports e.tree_record) nodes bytes count rest
+
+abbrev pub AreMembersIn : ℕ → List ℕ → ℕ → List ℕ → Type 0
+AreMembersIn nodes bytes count rest = IsListIn member_at (λ m. m.node) (λ m. IsLabel m.label) nodes bytes count rest
+
+-- the lists of a table with this head, in order, and nothing behind them
 pub record AreListsIn (bytes : List ℕ) (h : Head) : Type 0 where
-  pub table : Table
-  pub head : table.head ≡ h
-  pub read : lists_at bytes ≡ Some (table.ports, table.entries, table.directory)
-  pub lists : AreLists h.nodes table
+  pub port_count : ℕ
+  pub entry_count : ℕ
+  pub member_count : ℕ
+  pub after_ports : List ℕ
+  pub after_entries : List ℕ
+  pub ports : ArePortsIn h.nodes bytes port_count after_ports
+  pub entries : AreEntriesIn h.nodes port_count after_ports entry_count after_entries
+  pub members : AreMembersIn h.nodes after_entries member_count []
 
 -- the body of a table in order
 pub record IsBody (body : List ℕ) : Type 0 where

@@ -1,15 +1,11 @@
 -- The bytes of a table in their parts, whatever their values.
-use Rattle.std.specs.Prelude.{◌≡◌, ℕ, ◌+◌, ◌*◌, ◌^◌, ◌<◌, ◌≤◌, nat_lt, if◌then◌else◌, List, ◌++◌, take, drop, length, get_or, slice_set, Option, Some, None, option_map}
+use Rattle.std.specs.Prelude.{ℕ, ◌+◌, ◌*◌, ◌<◌, ◌≤◌, nat_lt, if◌then◌else◌, List, take, drop, length, get_or, slice_set, Option, Some, None, option_map}
 use Rattle.std.specs.Int.{w16, to_be_bytes}
-use Rattle.std.specs.List.{AllByRecursion}
 use Rattle.schemes.specs.declared.parts.Listed.{Listed}
 use Rattle.packet_bytes.specs.Layout.{packet_ports_at}
-use Rattle.packet_bytes.specs.Spelling.{IsLabel}
 use Rattle.byte_forms.specs.Reading.{◌>>=◌, number_at, u16_of}
 use Rattle.router_table.specs.Refusals.{entry_size, head_size}
-use Rattle.byte_forms.specs.Forms.{list_text}
 use Rattle.router_table.specs.MemberForm.{member_at}
-use Rattle.router_table.specs.Spelling.{member_text}
 
 -- so many bytes, and the bytes behind them, where there are so many
 abbrev pub cut_at : ℕ → List ℕ → Option (List ℕ × List ℕ)
@@ -63,9 +59,3 @@ with_hops packet hops = slice_set (slice_set packet 14 (get_or (to_be_bytes w16 
 -- the node of the member at the front, and the bytes behind that member
 abbrev pub member_head_at : List ℕ → Option (ℕ × List ℕ)
 member_head_at bytes = option_map (λ (x : Listed × List ℕ). (x.0.node, x.1)) (member_at bytes)
-
--- a directory whose members have bytes, and what stands behind it
-pub record IsDirectory (bytes : List ℕ) (members : List Listed) (rest : List ℕ) : Type 0 where
-  pub few : length members < 2 ^ 16
-  pub fit : AllByRecursion (λ m. (m.node < 2 ^ 16) × IsLabel m.label) members
-  pub text : bytes ≡ list_text member_text members ++ rest

@@ -3,10 +3,8 @@ ghost use Rattle.std.specs.Prelude.{◌≡◌, Some, slice_get};
 ghost use Rattle.router_table.specs.Table.{address_of};
 ghost use Rattle.table_view.specs.Answers.{OfTable, figures_of};
 
-use crate::parts::{ADDRESS_AT, GENERATION_AT, parts_of, port_in};
+use crate::parts::{head_in, parts_of, port_in};
 use byte_forms::u16_at;
-use packet_bytes::Wire;
-use router_table::numbers_of;
 use schemes::Address;
 
 /// Who a router is, and how much its table has.
@@ -28,12 +26,12 @@ pub fn figures_in(table: &[u8]) -> Option<Figures>
     ensures { OfTable table.now (λ a. result ≡ Some (figures_of a)) }
 {
     let (head, ports, _, entries, _, directory) = parts_of(table)?;
-    let (generation, nodes, node, _) = numbers_of(&head[GENERATION_AT..])?;
+    let router = head_in(head)?;
     let (members, _) = u16_at(directory)?;
     Some(Figures {
-        generation,
-        nodes,
-        node,
+        generation: router.generation,
+        nodes: router.nodes,
+        node: router.node,
         ports,
         entries,
         members,
@@ -53,8 +51,10 @@ pub fn address_in(table: &[u8]) -> Option<Address>
     ensures { OfTable table.now (λ a. result ≡ Some (address_of a.head)) }
 {
     let (head, _, _, _, _, _) = parts_of(table)?;
-    match Address::from_bytes(&head[ADDRESS_AT..]) {
-        Ok(address) => Some(address),
-        Err(_) => None,
-    }
+    let router = head_in(head)?;
+    Some(Address {
+        generation: router.generation,
+        node: router.node,
+        home: router.home,
+    })
 }

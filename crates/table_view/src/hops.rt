@@ -1,15 +1,16 @@
 // What a router does with a packet, out of the bytes of its table.
-ghost use Rattle.std.specs.Prelude.{◌≡◌, ◌↔◌, ◌*◌, ◌<◌, ℕ, slice_get, None, Some, IsTrue, MatchOption, length};
+ghost use Rattle.std.specs.Prelude.{◌≡◌, ◌↔◌, ◌*◌, ◌<◌, ◌==◌, ℕ, slice_get, None, Some, IsTrue, MatchOption, length};
 ghost use Rattle.heavy_labels.specs.Label.{Label};
 ghost use Rattle.heavy_labels.specs.Numbering.{by_port as port_or, step as step_by};
 ghost use Rattle.heavy_labels.specs.Stepped.{record_of as fields_of, stepped};
-ghost use Rattle.schemes.specs.Service.{one_less};
+ghost use Rattle.schemes.specs.declared.packet.Packet.{Packet};
+ghost use Rattle.schemes.specs.Service.{move_by, one_less};
+ghost use Rattle.schemes.specs.Tables.{Tables};
 ghost use Rattle.packet_bytes.specs.Layout.{packet_size};
 ghost use Rattle.packet_bytes.specs.Refusals.{packet_refusal};
 ghost use Rattle.router_table.specs.Handing.{hopped};
 ghost use Rattle.table_view.specs.Answers.{OfBoth, OfTable, move_of};
 ghost use Rattle.table_view.specs.Parts.{light_of, port_of};
-ghost use Rattle.table_view.specs.Ways.{after_step};
 
 use crate::packet_fields::{DESTINATION_AT, FIRST_AT, HOPS_AT, ROOT_AT, light_at};
 use crate::parts::{ENTRY_SIZE, NODE_AT, NODES_AT, PORT_SIZE, parts_of, port_in};
@@ -70,7 +71,8 @@ fn hop_after(
     hops_left: u16,
 ) -> Result<Hop, Refused>
     requires { length ports.now ≡ PORT_SIZE * count }
-    ensures { result ≡ after_step here (port_of ports.now count) hops_left (stepped step) }
+    ensures { (t : Tables) (x : ℕ) (k : Packet) → here ≡ (x == k.destination) → hops_left ≡ k.hops_left
+        → ((q : ℕ) → port_of ports.now count q ≡ t.over x q) → move_by t x k (stepped step) ≡ move_of k result }
 {
     match step {
         TreeStep::Arrived => {
@@ -110,9 +112,6 @@ pub(crate) fn hop_of(table: &[u8], packet: &[u8]) -> Option<Result<Hop, Refused>
     let nodes = u16_in(head, NODES_AT);
     let node = u16_in(head, NODE_AT);
     let hops_left = u16_in(packet, HOPS_AT);
-    if node >= nodes {
-        return Some(Err(Refused::NoNode));
-    }
     if hops_left >= nodes {
         return Some(Err(Refused::Stray));
     }
@@ -134,13 +133,9 @@ pub(crate) fn hop_of(table: &[u8], packet: &[u8]) -> Option<Result<Hop, Refused>
 fn one_hop_less(packet: &Packet) -> Packet
     ensures { result ≡ one_less packet.now }
 {
-    Packet {
-        generation: packet.generation,
-        destination: packet.destination,
-        root: packet.root,
-        label: packet.label.copy(),
-        hops_left: packet.hops_left.saturating_sub(1),
-    }
+    let mut less = packet.copy();
+    less.hops_left = less.hops_left.saturating_sub(1);
+    less
 }
 
 /// What the router does with a packet, by the bytes of its table. None where it meets that they spell no table.

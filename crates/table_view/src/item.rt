@@ -1,5 +1,5 @@
 // Lists of a table in bytes that are in order.
-ghost use Rattle.std.specs.Prelude.{◌≡◌, ◌↔◌, ℕ, IsTrue, List, MatchOption};
+ghost use Rattle.std.specs.Prelude.{◌≡◌, ◌↔◌, ◌<◌, ◌≤◌, ℕ, IsTrue, List, MatchOption};
 ghost use Rattle.packet_bytes.specs.Spelling.{IsLabel};
 ghost use Rattle.router_table.specs.Order.{IsRecord};
 ghost use Rattle.table_view.specs.Listing.{IsListIn};
@@ -67,6 +67,14 @@ impl Item for MemberForm {
     }
 }
 
+/// Whether an item may come next, where no number may be below the least one, in a node with so many ports.
+fn may_come<F: Item>(item: &F::Value, least: u32, limit: u16, ports: u16) -> bool
+    ensures { IsTrue result ↔ ((least ≤ F.key item.now) × (F.key item.now < limit) × F.IsGood ports item.now) }
+{
+    let key = F::key(item);
+    key as u32 >= least && key < limit && F::is_good(item, ports)
+}
+
 /// Whether a list stands at the front whose numbers strictly ascend, below a limit, and whose items a node with so many ports may have:
 /// how many items it has, and the bytes behind it.
 pub(crate) fn list_in_order<F: Item>(bytes: &[u8], limit: u16, ports: u16) -> Option<(u16, &[u8])>
@@ -83,16 +91,10 @@ pub(crate) fn list_in_order<F: Item>(bytes: &[u8], limit: u16, ports: u16) -> Op
         let Some((item, after)) = F::take(rest) else {
             return None;
         };
+        if !may_come::<F>(&item, least, limit, ports) {
+            return None;
+        }
         let key = F::key(&item);
-        if (key as u32) < least {
-            return None;
-        }
-        if key >= limit {
-            return None;
-        }
-        if !F::is_good(&item, ports) {
-            return None;
-        }
         least = key as u32 + 1;
         rest = after;
     }

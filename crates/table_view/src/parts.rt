@@ -1,10 +1,13 @@
 // The bytes of a table in their parts, whatever their values.
-ghost use Rattle.std.specs.Prelude.{◌≡◌, ◌+◌, ◌*◌, ◌^◌, ◌<◌, ◌≤◌, length, IfSome};
+ghost use Rattle.std.specs.Prelude.{◌≡◌, ◌+◌, ◌*◌, ◌^◌, ◌<◌, ◌≤◌, length, IfSome, Some};
 ghost use Rattle.byte_forms.specs.Reading.{Finds};
+ghost use Rattle.router_table.specs.declared.head.Head.{Head};
+ghost use Rattle.router_table.specs.Order.{IsHead};
+ghost use Rattle.router_table.specs.Spelling.{head_text};
 ghost use Rattle.table_view.specs.Parts.{cut_at, items_cut, parts_at, port_of};
 
 use byte_forms::{u16_at, u16_in};
-use router_table::HEAD_SIZE;
+use router_table::{FRONT_SIZE, HEAD_SIZE, Head, head_of};
 
 /// A port.
 pub(crate) const PORT_SIZE: usize = 2;
@@ -12,14 +15,10 @@ pub(crate) const PORT_SIZE: usize = 2;
 /// An entry.
 pub(crate) const ENTRY_SIZE: usize = 13;
 
-/// Where in a head the generation, the number of nodes, the node and its address stand.
-pub(crate) const GENERATION_AT: usize = 8;
-
+/// Where in a head the number of nodes and the node stand.
 pub(crate) const NODES_AT: usize = 16;
 
 pub(crate) const NODE_AT: usize = 18;
-
-pub(crate) const ADDRESS_AT: usize = 20;
 
 /// So many bytes, and the bytes behind them.
 pub(crate) fn cut(count: usize, bytes: &[u8]) -> Option<(&[u8], &[u8])>
@@ -59,6 +58,15 @@ pub(crate) fn parts_of(bytes: &[u8]) -> Option<(&[u8], u16, &[u8], u16, &[u8], &
     let (port_count, ports, rest) = cut_items(PORT_SIZE, rest)?;
     let (entry_count, entries, rest) = cut_items(ENTRY_SIZE, rest)?;
     Some((head, port_count, ports, entry_count, entries, rest))
+}
+
+/// Who the router is, out of the bytes of a head. None where it meets that they are of none.
+pub(crate) fn head_in(head: &[u8]) -> Option<Head>
+    requires { length head.now ≡ HEAD_SIZE }
+    ensures { (h : Head) → IsHead h → head.now ≡ head_text h → result ≡ Some h }
+{
+    let (_, router) = head.split_at(FRONT_SIZE);
+    head_of(router)
 }
 
 /// The neighbour behind a port, out of the bytes of so many.

@@ -1,8 +1,9 @@
-use Rattle.std.proofs.Common.{ℕ, List}
+use Rattle.std.proofs.Common.{◌≡◌, ℕ, List, Some}
 use Rattle.schemes.specs.declared.parts.Listed.{Listed}
-use Rattle.table_view.specs.Parts.{IsDirectory}
+use Rattle.byte_forms.specs.Reading.{list_at}
+use Rattle.router_table.specs.MemberForm.{member_at}
 use Rattle.table_view.proofs.Walks.{IsLeft}
 use Rattle.table_view.proofs.launches.label_in.Given as goal
 
 abbrev pub invariant-loop : goal.invariant-loop
-invariant-loop l = (ms : List Listed) (rest : List ℕ) → IsDirectory l.directory ms rest → IsLeft l.count l.counter l.node l.rest ms rest
+invariant-loop l = (ms : List Listed) (rest : List ℕ) → list_at member_at l.directory ≡ Some (ms, rest) → IsLeft l.count l.counter l.node l.rest ms rest
