@@ -1,2 +1,1 @@
 pub mod StopLemmas
-pub mod TableLemmas

@@ -1,15 +1,15 @@
 -- Kinds of trials, and a table of them.
-use Rattle.std.specs.Prelude.{◌≡◌, ◌==◌, ◌&&◌, ℕ, nat_lt, Bool, true, cond, List, [], ◌∷◌, ◌++◌, length, codes, decimal}
-use Rattle.std.specs.List.{AllByRecursion, count_by, sum_by}
+use Rattle.std.specs.Prelude.{◌≡◌, ◌==◌, ◌&&◌, ℕ, Bool, List, ◌++◌, codes, decimal, map}
+use Rattle.std.specs.List.{AllByRecursion, Contains, count_by}
+use Rattle.std.specs.List.Sorted.{IsStrictlySortedBy}
+use Rattle.std.specs.Ordering.{nat_cmp, ordering_then}
+use Rattle.std.specs.declared.cmp.Ordering.{Ordering}
 use Rattle.crash_points.specs.declared.kinds.Kind.{Kind}
 use Rattle.crash_points.specs.declared.kinds.KindCount.{KindCount}
 
--- whether one kind stands before another: by what the life found, then by what was acknowledged, then by what the next opening found
-abbrev pub is_below : Kind → Kind → Bool
-is_below a b =
-    cond (a.found == b.found)
-    (cond (a.acknowledged == b.acknowledged) (nat_lt a.opened b.opened) (nat_lt a.acknowledged b.acknowledged))
-    (nat_lt a.found b.found)
+-- the order of kinds: by what the life found, then by what was acknowledged, then by what the next opening found
+abbrev pub order : Kind → Kind → Ordering
+order a b = ordering_then (nat_cmp a.found b.found) (ordering_then (nat_cmp a.acknowledged b.acknowledged) (nat_cmp a.opened b.opened))
 
 -- whether two kinds are the same
 abbrev pub is_kind : Kind → Kind → Bool
@@ -19,20 +19,16 @@ is_kind a b = (a.found == b.found) && ((a.acknowledged == b.acknowledged) && (a.
 abbrev pub times : Kind → List Kind → ℕ
 times kind kinds = count_by (is_kind kind) kinds
 
--- how many trials all rows count
-abbrev pub all_trials : List KindCount → ℕ
-all_trials rows = sum_by (λ row. row.trials) rows
+-- the kinds of rows
+abbrev pub kinds_of : List KindCount → List Kind
+kinds_of rows = map (λ row. row.kind) rows
 
--- each row stands before all those behind it
-abbrev pub Ascend : List KindCount → Type 0
-Ascend [] = Unit {0}
-Ascend (row ∷ rows) = AllByRecursion (λ later. is_below row.kind later.kind ≡ true) rows × Ascend rows
-
--- A table of trials: its rows ascend, each counts exactly the trials of its kind, and together they count all trials.
+-- A table of trials: its rows ascend, each before all those behind it, each counts exactly the trials of its kind, and each trial's kind has
+-- its row. So together they count all trials.
 pub record IsTableOf (kinds : List Kind) (rows : List KindCount) : Type 0 where
-  pub ascending : Ascend rows
+  pub ascending : IsStrictlySortedBy order (kinds_of rows)
   pub each : AllByRecursion (λ row. row.trials ≡ times row.kind kinds) rows
-  pub all : all_trials rows ≡ length kinds
+  pub all : (kind : Kind) → Contains kinds kind → Contains (kinds_of rows) kind
 
 -- the row of a kind
 abbrev pub row_of : List Kind → Kind → KindCount

@@ -1,6 +1,6 @@
 //! What trials came to, and a table of it.
-ghost use Rattle.std.specs.Prelude.{◌≡◌, IfOk, Some, map};
-ghost use Rattle.crash_points.specs.Tables.{IsTableOf, count_text, row_of, times};
+ghost use Rattle.std.specs.Prelude.{◌≡◌, IfOk, Some};
+ghost use Rattle.crash_points.specs.Tables.{IsTableOf, count_text, times};
 
 use std::alloc::{AllocError, Global};
 use std::fmt;
@@ -42,13 +42,6 @@ pub fn table_of(alloc: Global, kinds: &[Kind]) -> Result<Vec<KindCount>, AllocEr
     let mut each = Vec::from_slice(alloc, kinds)?;
     each.sort_unstable();
     each.dedup();
-    rows_of(alloc, kinds, &each)
-}
-
-// The row of each of these, in their order.
-fn rows_of(alloc: Global, kinds: &[Kind], each: &[Kind]) -> Result<Vec<KindCount>, AllocError>
-    ensures { IfOk result (λ rows. rows.items ≡ map (row_of kinds.now) each.now) }
-{
     each.iter()
         .map(|kind| KindCount {
             kind: *kind,

@@ -10,7 +10,7 @@
 //!   those that were made (`calls_made`, specs/WatchedWords.antt), and these come out.
 //! - [`stops_of`] answers the first stops of these calls, in order, at most as many as are asked for (`first_stops`, specs/Stops.antt).
 //! - [`table_of`] answers a table of these kinds (`IsTableOf`, specs/Tables.antt): its rows ascend, each counts exactly the trials of its
-//!   kind, and together they count all trials.
+//!   kind, and each trial's kind has its row, so together they count all trials.
 //!
 //! ```text
 //! let table = table_of(alloc, &[first, second, first])?;

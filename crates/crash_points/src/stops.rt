@@ -40,9 +40,6 @@ pub fn stops_of(alloc: Global, calls: &[Call], most: usize) -> Result<Vec<Stop>,
 {
     let mut stops = Vec::new(alloc);
     for i in 0..calls.len() {
-        if stops.len() == most {
-            return Ok(stops);
-        }
         push_stops(&mut stops, i as u64 + 1, calls[i], most)?;
     }
     Ok(stops)

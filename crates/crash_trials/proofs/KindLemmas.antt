@@ -1,52 +1,54 @@
 -- What lives came to: nothing that was found or acknowledged is gone.
-use Rattle.std.proofs.Common.{◌≡◌, ◌∙◌, sym, ap, subst, ℕ, zero, suc, ◌+◌, ◌-◌, ◌≤◌, List, [], ◌∷◌, ◌++◌, get_or, length, take, Option, false, arith}
+use Rattle.std.proofs.Common.{arith, ◌≡◌, ◌∙◌, sym, ap, subst, ℕ, ◌+◌, ◌≤◌, List, [], ◌∷◌, ◌++◌, append_assoc, Option, false}
+use Rattle.std.proofs.lemmas.List.{take-take}
+use Rattle.std.proofs.lemmas.List.Sums.{sum_by-cons}
 use Rattle.disk_trait.specs.declared.disk.Disk.{Ghosts}
 use Rattle.layout_reader.specs.declared.refusals.OpenRefused.{OpenRefused}
 use Rattle.layout_2.specs.State.{State}
+use Rattle.event_model.specs.declared.event.Event.{Event}
+use Rattle.event_model.specs.declared.reply.Reply.{Reply}
+use Rattle.event_model.specs.Answers.{number_of}
 use Rattle.event_model.specs.Machines.{Machine, begun}
 use Rattle.event_laws.specs.History.{state_at}
 use Rattle.event_laws.specs.Listed.{IsListed}
+use Rattle.event_laws.specs.Replies.{RunRoutes}
 use Rattle.interleave.specs.WorldWords.{machine_of}
 use Rattle.life_chain.specs.declared.life.Life.{Life}
 use Rattle.life_chain.specs.declared.report.LifeReport.{LifeReport}
-use Rattle.life_chain.specs.Reports.{opened_of, taken_of}
-use Rattle.life_chain.specs.Sound.{IsSafe}
-use Rattle.life_chain.specs.Lived.{IsLived, AreLived}
-use Rattle.life_chain.specs.Chains.{IsNextOf, AreChained}
-use Rattle.life_chain.proofs.LifeLemmas.{Ended, settled_is}
+use Rattle.life_chain.specs.Chains.{AreChained}
+use Rattle.life_chain.specs.Lived.{AreLived, IsAnswered}
+use Rattle.life_chain.specs.Reports.{ended_with, opened_of, taken_of}
+use Rattle.life_chain.proofs.EventLemmas.{Tally, count_after, count_after_is, gives, rebuild_keeps}
 use Rattle.crash_trials.specs.Kinds.{accepted_by, AreKept}
-use Rattle.crash_trials.proofs.CountLemmas.{run_adds, rebuild_same}
 
--- ---- a life and the next one
+-- after events the store has as many changes more as their replies acknowledge
+run_adds : (first : State) (m : Machine) (events : List Event) (replies : List Reply) (n : Machine) → RunRoutes first m events replies n → m.state.count + accepted_by replies ≡ n.state.count
+run_adds first m [] [] n run = let e : n.state.count ≡ m.state.count = ap (λ (x : Machine). x.state.count) run in omega arith
+run_adds first m [] (reply ∷ replies) n run = absurd run
+run_adds first m (event ∷ events) [] n run = absurd run
+run_adds first m (event ∷ events) (reply ∷ replies) n run =
+    let one : count_after m.state.count reply ≡ run.0.state.count = ap (λ (t : Tally). t.count) (gives event m reply run.0 run.1.0) in
+    let all = run_adds first run.0 events replies n run.1.1.1 in
+    omega (arith, count_after_is m.state.count reply, sum_by-cons number_of reply replies)
 
-module _ {D : Type 0} (model : Ghosts D) (by_word : D → ℕ → D → Type 0) where
-  -- the state after all that a commit answered Ok for has as many changes as the life found and its replies acknowledge
-  life_adds : (disk left : D) (life : Life) (report : LifeReport) → IsLived model by_word disk life report left → report.count + accepted_by report.replies.items ≡ (state_at (opened_of report) (taken_of report) report.stored.done).count
-  life_adds disk left life report lived =
-      let first : State = opened_of report in
-      let content : List ℕ = (model.view left).content in
-      let m : Machine = machine_of lived.stopped in
-      let end : Ended first life report content = record {
-        due = m.due;
-        state = m.state;
-        down = m.down;
-        listed = subst (λ (n : Machine). IsListed first n) lived.answered.reported lived.answered.listed;
-        safe = subst (λ (n : Machine). IsSafe first life report n n content) lived.answered.reported (lived.sound.safe.now content lived.sound.crashed.image);
-      } in
-      let settled : m.state ≡ state_at first (taken_of report) report.stored.done = settled_is first life report content end in
-      let start : first.count ≡ (machine_of lived.started).state.count = rebuild_same life.words.items (begun life.capacity life.sessions first false) report.rebuilt (machine_of lived.started) lived.answered.rebuilt in
-      let run : (machine_of lived.started).state.count + accepted_by report.replies.items ≡ m.state.count = run_adds first (machine_of lived.started) life.events.items report.replies.items m lived.answered.answers in
-      ap (λ (n : ℕ). n + accepted_by report.replies.items) start ∙ run ∙ ap (λ (s : State). s.count) settled
+-- the state after all that a commit answered Ok for has as many changes as the life found and its replies acknowledge
+life_adds : (life : Life) (report : LifeReport) (built ended : Machine) → IsAnswered (opened_of report) life report built ended → report.count + accepted_by report.replies.items ≡ (state_at (opened_of report) (taken_of report) report.stored.done).count
+life_adds life report built ended is =
+    let first : State = opened_of report in
+    let listed : IsListed first (ended_with report ended.due ended.state ended.down) = subst (λ (n : Machine). IsListed first n) is.reported is.listed in
+    let settled : ended.state ≡ state_at first (taken_of report) report.stored.done = rw (take-take report.stored.done report.stored.taken report.stored.asked.items listed.lists.started) listed.lists.state_is in
+    let start : first.count ≡ built.state.count = ap (λ (t : Tally). t.count) (rebuild_keeps life.words.items (begun life.capacity life.sessions first false) report.rebuilt built is.rebuilt) in
+    let run : built.state.count + accepted_by report.replies.items ≡ ended.state.count = run_adds first built life.events.items report.replies.items ended is.answers in
+    ap (λ (n : ℕ). n + accepted_by report.replies.items) start ∙ run ∙ ap (λ (s : State). s.count) settled
 
-  next_keeps : (disk left : D) (life : Life) (report next : LifeReport) → IsLived model by_word disk life report left → IsNextOf life report next → report.count + accepted_by report.replies.items ≤ next.count
-  next_keeps disk left life report next lived is = subst (λ (n : ℕ). n ≤ next.count) (sym (life_adds disk left life report lived)) is.holds
-
-  -- each life keeps what the one before had
-  pub are_kept : (disk left : D) (lives : List Life) (reports : List LifeReport) (refused : Option OpenRefused) → AreLived model by_word disk lives reports refused left → AreChained lives reports → AreKept reports
-  are_kept disk left lives [] refused so chained = tt
-  are_kept disk left lives (r ∷ []) refused so chained = tt
-  are_kept disk left [] (r ∷ (next ∷ more)) refused so chained = absurd chained
-  are_kept disk left (x ∷ xs) (r ∷ (next ∷ more)) refused so chained = (next_keeps disk so.0 x r next so.1.0 chained.0, are_kept so.0 left xs (next ∷ more) refused so.1.1 chained.1)
+-- each life keeps what the one before had
+pub are_kept : {D : Type 0} (model : Ghosts D) (by_word : D → ℕ → D → Type 0) (disk left : D) (lives : List Life) (reports : List LifeReport) (refused : Option OpenRefused) → AreLived model by_word disk lives reports refused left → AreChained lives reports → AreKept reports
+are_kept model by_word disk left lives [] refused so chained = tt
+are_kept model by_word disk left lives (r ∷ []) refused so chained = tt
+are_kept model by_word disk left [] (r ∷ (next ∷ more)) refused so chained = absurd chained
+are_kept model by_word disk left (x ∷ xs) (r ∷ (next ∷ more)) refused so chained =
+    let adds = life_adds x r (machine_of so.1.0.started) (machine_of so.1.0.stopped) so.1.0.answered in
+    (subst (λ (n : ℕ). n ≤ next.count) (sym adds) chained.0.holds, are_kept model by_word so.0 left xs (next ∷ more) refused so.1.1 chained.1)
 
 -- ---- the last two lives
 
@@ -55,23 +57,9 @@ last_kept [] stopped last kept = kept.0
 last_kept (x ∷ []) stopped last kept = kept.1.0
 last_kept (x ∷ (y ∷ ys)) stopped last kept = last_kept (y ∷ ys) stopped last kept.1
 
-two_last : (reports : List LifeReport) (n : ℕ) (stopped last : LifeReport) → n + 2 ≡ length reports → stopped ≡ get_or reports n stopped → last ≡ get_or reports (n + 1) last → reports ≡ take n reports ++ (stopped ∷ (last ∷ []))
-two_last [] n stopped last many s l = absurd (omega arith)
-two_last (x ∷ []) n stopped last many s l = absurd (omega arith)
-two_last (x ∷ (y ∷ [])) zero stopped last many s l = λ i. sym s i ∷ (sym l i ∷ [])
-two_last (x ∷ (y ∷ [])) (suc n) stopped last many s l = absurd (omega arith)
-two_last (x ∷ (y ∷ (z ∷ zs))) zero stopped last many s l = absurd (omega arith)
-two_last (x ∷ (y ∷ (z ∷ zs))) (suc n) stopped last many s l =
-    let e : suc n + 1 ≡ suc (n + 1) = omega arith in
-    ap (λ (r : List LifeReport). x ∷ r) (two_last (y ∷ (z ∷ zs)) n stopped last (omega arith) s (subst (λ (k : ℕ). last ≡ get_or (x ∷ (y ∷ (z ∷ zs))) k last) e l))
-
--- two reports stand behind so many, and the last one keeps what the one before it had
-pub record AreLastTwo (reports : List LifeReport) (before : ℕ) (stopped last : LifeReport) : Type 0 where
-  pub is : reports ≡ take before reports ++ (stopped ∷ (last ∷ []))
-  pub kept : stopped.count + accepted_by stopped.replies.items ≤ last.count
-
-pub last_two : (reports : List LifeReport) (many : ℕ) (stopped last : LifeReport) → many ≡ length reports → 2 ≤ many → stopped ≡ get_or reports (many - 2) stopped → last ≡ get_or reports (many - 1) last → AreKept reports → AreLastTwo reports (many - 2) stopped last
-last_two reports many stopped last all some s l kept =
-    let behind : many - 1 ≡ many - 2 + 1 = omega arith in
-    let is : reports ≡ take (many - 2) reports ++ (stopped ∷ (last ∷ [])) = two_last reports (many - 2) stopped last (omega arith) s (subst (λ (k : ℕ). last ≡ get_or reports k last) behind l) in
-    record { is = is; kept = last_kept (take (many - 2) reports) stopped last (subst AreKept is kept) }
+-- two reports stand behind others, and the last one keeps what the one before it had
+pub last_two : (reports others before : List LifeReport) (stopped last : LifeReport) → reports ≡ others ++ last ∷ [] → others ≡ before ++ stopped ∷ [] → AreKept reports
+    → (reports ≡ before ++ (stopped ∷ (last ∷ []))) × (stopped.count + accepted_by stopped.replies.items ≤ last.count)
+last_two reports others before stopped last all front kept =
+    let is : reports ≡ before ++ (stopped ∷ (last ∷ [])) = all ∙ ap (λ (l : List LifeReport). l ++ last ∷ []) front ∙ append_assoc before (stopped ∷ []) (last ∷ []) in
+    (is, last_kept before stopped last (subst AreKept is kept))

@@ -1,4 +1,2 @@
-mod ArmingLemmas
-mod CountLemmas
 mod KindLemmas
-mod EveryLemmas
+mod TrialLemmas

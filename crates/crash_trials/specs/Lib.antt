@@ -1,4 +1,2 @@
-pub mod Arming
 pub mod Kinds
-pub mod Texts
 pub mod Trials

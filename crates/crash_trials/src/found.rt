@@ -14,17 +14,19 @@ pub(crate) fn kind_of(report: &LivesReport) -> Option<Kind>
     requires { AreKept report.now.lives.items }
     ensures { IfSome result (λ kind. IsKindOf report.now kind) }
 {
-    let many = report.lives.len();
-    if many < 2 || !is_whole(report) {
+    if !is_whole(report) {
         return None;
     }
-    let stopped = &report.lives[many - 2];
-    let last = &report.lives[many - 1];
-    let opened = last.count;
+    let Some((last, others)) = report.lives.split_last() else {
+        return None;
+    };
+    let Some((stopped, _before)) = others.split_last() else {
+        return None;
+    };
     Some(Kind {
         found: stopped.count,
-        acknowledged: accepted_in(&stopped.replies, opened),
-        opened,
+        acknowledged: accepted_in(&stopped.replies, last.count),
+        opened: last.count,
     })
 }
 
@@ -68,11 +70,7 @@ fn accepted_in(replies: &[Reply], most: u64) -> u64
     requires { accepted_by replies.now ≤ most }
     ensures { result ≡ accepted_by replies.now }
 {
-    let mut sum: u64 = 0;
-    for reply in replies {
-        sum += accepted_of(*reply);
-    }
-    sum
+    replies.iter().map(|reply| accepted_of(*reply)).sum()
 }
 
 fn accepted_of(reply: Reply) -> u64

@@ -1,7 +1,5 @@
 //! A rehearsal tried with its device stopped at every call: what the next opening finds.
 //!
-//! # What it is
-//!
 //! The last life that a rehearsal's text asks for is run again and again, each time on a new device that stops at another of the calls
 //! which that life makes of it, and behind another number of bytes of a write. Behind it comes the life that only opens. [`try_stop`] is
 //! one such trial, [`try_every_stop`] all of them, and what it answers is a table of what they came to. `docs/FORMATS.md`, "Every stop of its device",
@@ -23,14 +21,9 @@
 //! A run in which memory ran out, in an opening or for a reply, is no trial and lists no calls: it is refused.
 #![tactic(auto)]
 
-mod arming;
-mod every;
 mod found;
-mod listing;
 mod texts;
 mod trial;
 
-pub use every::{try_every_stop, try_stops};
-pub use listing::calls_of_last;
 pub use texts::trials_text;
-pub use trial::{StopFound, try_stop};
+pub use trial::{StopFound, calls_of_last, try_every_stop, try_stop, try_stops};

@@ -14,8 +14,7 @@ use Rattle.lab_parts.specs.Words.{IsUsual}
 use Rattle.lab_parts.specs.declared.telling.PrintRefused.TheVariants.{Memory}
 use Rattle.rehearsals.specs.Asked.{AreAsked}
 use Rattle.rehearsals.specs.Rehearsed.{IsRehearsed}
-use Rattle.crash_trials.specs.Texts.{IsTrialsText}
-use Rattle.crash_trials.specs.Trials.{IsTried}
+use Rattle.crash_trials.specs.Trials.{IsTrialsText, IsTried}
 pub use Rattle.crash_trials.specs.Trials.{TrialDevices}
 use Rattle.value_syntax.specs.Scripts.{lines_of}
 

@@ -30,9 +30,8 @@ pub(crate) fn line_in(
     };
     match stage {
         Stage::Empty if *first == "device" => device_in(alloc, rest),
-        Stage::Empty => Ok(None),
         Stage::Made(nodes) if *first == "life" => life_in(alloc, rest, nodes),
-        Stage::Made(_) => Ok(None),
+        Stage::Empty | Stage::Made(_) => Ok(None),
         Stage::Living(nodes) => living_in(alloc, *first, rest, nodes),
     }
 }
@@ -102,14 +101,12 @@ fn submit_in(alloc: Global, rest: &[&str]) -> Result<Option<RehearsalLine>, Allo
     let Some(ticket) = number(alloc, ticket, u64::MAX)? else {
         return Ok(None);
     };
-    match change_in(alloc, ops)? {
-        Some(change) => Ok(Some(RehearsalLine::Submit {
-            session: session as u8,
-            ticket,
-            change,
-        })),
-        None => Ok(None),
-    }
+    let session = session as u8;
+    Ok(change_in(alloc, ops)?.map(|change| RehearsalLine::Submit {
+        session,
+        ticket,
+        change,
+    }))
 }
 
 // Two numbers that are the only words, each at most its `most`.
@@ -213,16 +210,16 @@ fn life_in(alloc: Global, fields: &[&str], nodes: u16) -> Result<Option<Rehearsa
     let Some(words) = device_words(alloc, words, nodes)? else {
         return Ok(None);
     };
-    match end_in(alloc, end)? {
-        Some((plan, crash)) => Ok(Some(RehearsalLine::Life(LifeLine {
-            sessions,
-            places,
-            words,
-            plan,
-            crash,
-        }))),
-        None => Ok(None),
-    }
+    let Some((plan, crash)) = end_in(alloc, end)? else {
+        return Ok(None);
+    };
+    Ok(Some(RehearsalLine::Life(LifeLine {
+        sessions,
+        places,
+        words,
+        plan,
+        crash,
+    })))
 }
 
 // What stands in a field behind its name.
@@ -285,10 +282,7 @@ fn plan_in(alloc: Global, field: &str) -> Result<Option<Plan>, AllocError>
     let Some(value) = behind(field, "stop=") else {
         return Ok(None);
     };
-    match pair_in(alloc, value)? {
-        Some((call, bytes)) => Ok(Some(Plan::Stop(call, bytes as usize))),
-        None => Ok(None),
-    }
+    Ok(pair_in(alloc, value)?.map(|(call, bytes)| Plan::Stop(call, bytes as usize)))
 }
 
 // Two numbers with a colon between, `A:B`.

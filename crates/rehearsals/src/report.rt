@@ -1,11 +1,10 @@
 //! The lines of a report.
-ghost use Rattle.std.specs.Prelude.{◌≡◌, ◌++◌, [], IfOk, OnOk, cond};
+ghost use Rattle.std.specs.Prelude.{◌≡◌, ◌++◌, IfOk, OnOk};
 ghost use Rattle.std.specs.List.{flat_map};
 ghost use Rattle.std.specs.String.{string_bytes};
-ghost use Rattle.rehearsals.specs.Reports.{answered_lines, crash_line, crashed_line, found_line, held_text, held_tickets, life_lines, not_opened, opened_line, reply_line, report_text};
+ghost use Rattle.rehearsals.specs.Reports.{answered_lines, crash_line, crashed_line, found_line, held_text, held_tickets, life_lines, opened_line, reply_line, report_text};
 
 use crate::lines::{NotOpenedLine, ReplyLine};
-use checkpoint::OpenRefused;
 use event_model::Reply;
 use life_chain::{LifeReport, LivesReport};
 use std::alloc::{AllocError, Global};
@@ -18,7 +17,9 @@ pub fn report_text(alloc: Global, whole: usize, report: &LivesReport) -> Result<
     let told = whole.min(report.lives.len());
     push_lives(alloc, &mut text, true, &report.lives[..told])?;
     push_lives(alloc, &mut text, false, &report.lives[told..])?;
-    push_refused(&mut text, report.refused)?;
+    if let Some(refused) = report.refused {
+        writeln!(&mut text, "{}", NotOpenedLine { refused })?;
+    }
     Ok(text)
 }
 
@@ -46,17 +47,11 @@ fn push_life(
     ensures { OnOk result (string_bytes text.new ≡ string_bytes text.old ++ life_lines is_whole life.now) }
 {
     push_opened(alloc, text, life)?;
-    push_rest(text, is_whole, life)
-}
-
-// What it was answered, where all is told of it.
-fn push_rest(text: &mut String, is_whole: bool, life: &LifeReport) -> Result<(), AllocError>
-    ensures { OnOk result (string_bytes text.new ≡ string_bytes text.old ++ cond is_whole (answered_lines life.now) []) }
-{
     if is_whole {
-        push_answered(text, life)?;
+        push_answered(text, life)
+    } else {
+        Ok(())
     }
-    Ok(())
 }
 
 // What it opened to.
@@ -140,15 +135,5 @@ fn push_crashed(
     ensures { OnOk result (string_bytes text.new ≡ string_bytes text.old ++ crashed_line taken done posted) }
 {
     writeln!(text, "crash taken={taken} settled={done} postings={posted}")?;
-    Ok(())
-}
-
-// Why the life behind the others couldn't open, if there is one.
-fn push_refused(text: &mut String, refused: Option<OpenRefused>) -> Result<(), AllocError>
-    ensures { OnOk result (string_bytes text.new ≡ string_bytes text.old ++ not_opened refused) }
-{
-    if let Some(refused) = refused {
-        writeln!(text, "{}", NotOpenedLine { refused })?;
-    }
     Ok(())
 }

@@ -1,12 +1,7 @@
-use Rattle.std.proofs.Common.{arith, rules, ◌≡◌, ◌∙◌, ◌<◌, append-nil, length}
-use Rattle.std.proofs.lemmas.List.{drop_all, get_or_default, length-take, take_all, take_at}
+use Rattle.std.proofs.Common.{arith, rules, ◌∙◌, ◌<◌, append-nil, length}
+use Rattle.std.proofs.lemmas.List.{drop_all, get_or_default, length-take, take_all}
 use Rattle.crash_points.proofs.StopLemmas.{one_call_more}
 use Rattle.crash_points.proofs.stops.stops_of.Goals as goal
-
-pub returns-then-len-most : goal.returns-then-len-most
-returns-then-len-most c =
-    let full : length c.loop-i.stops.items ≡ c.args.most = search rules in
-    rw take_at at c.loop-i.invariant.all
 
 pub loop-i-preserved : goal.loop-i-preserved
 loop-i-preserved c =

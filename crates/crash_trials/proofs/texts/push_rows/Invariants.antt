@@ -1,7 +1,7 @@
 use Rattle.std.proofs.Common.{◌≡◌, ◌++◌, take}
 use Rattle.std.specs.List.{flat_map}
 use Rattle.std.specs.String.{string_bytes}
-use Rattle.crash_trials.specs.Texts.{count_line}
+use Rattle.crash_trials.specs.Trials.{count_line}
 use Rattle.crash_trials.proofs.texts.push_rows.Given as goal
 
 -- the lines of the rows so far are there

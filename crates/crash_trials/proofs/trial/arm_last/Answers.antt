@@ -1,8 +1,8 @@
 use Rattle.std.proofs.Common.{rules, ◌≡◌, ◌∙◌, refl, ap, ℕ, ◌-◌, ◌<◌, List, length, set, arith}
 use Rattle.life_chain.specs.declared.life.Life.{Life}
-use Rattle.crash_trials.specs.Arming.{planned, armed_at}
-use Rattle.crash_trials.proofs.ArmingLemmas.{set_is, written}
-use Rattle.crash_trials.proofs.arming.arm_last.Goals as goal
+use Rattle.crash_trials.specs.Trials.{planned, armed_at}
+use Rattle.crash_trials.proofs.TrialLemmas.{set_is, written}
+use Rattle.crash_trials.proofs.trial.arm_last.Goals as goal
 
 pub returns : goal.returns
 returns c =
