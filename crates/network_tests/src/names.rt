@@ -1,6 +1,7 @@
 // Names, by hand. Ends that are numbers, and a name too many in a list, are in conformance/edge_lists.txt.
 use crate::helpers::got;
 use edge_lists::{Names, edge_list};
+use edge_rows::begins;
 
 // Names that are asked for one behind another, how many there may be, and the number.
 const ASKED: [(&str, u16, Option<u16>); 6] = [
@@ -32,4 +33,11 @@ fn names_that_no_line_of_words_may_have(rt: HostRuntime) {
         let text = got(&rt, text);
         assert!(rt; text.is_none(), "{name}");
     }
+}
+
+#[test]
+fn a_text_begins_with_its_first_byte(rt: HostRuntime) {
+    assert!(rt; begins(b'#', b"# Bern"));
+    assert!(rt; !begins(b'#', b"Bern #"));
+    assert!(rt; !begins(b'#', b""));
 }
