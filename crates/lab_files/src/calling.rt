@@ -50,13 +50,10 @@ impl NamesBeside {
         ensures err { IfErr result IsRefusal }
     {
         match &self.kept.text {
-            Some(text) => called_in(
-                alloc,
-                self.kept.file(&self.beside),
-                text.as_str(),
-                nodes,
-                err,
-            ),
+            Some(text) => {
+                let file = self.kept.file(&self.beside);
+                called_in(alloc, file, text.as_str(), nodes, err)
+            }
             None => Ok(Called::Numbers),
         }
     }

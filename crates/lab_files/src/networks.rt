@@ -46,16 +46,6 @@ impl From<AllocError> for ExportRefused {
     }
 }
 
-impl From<PrintRefused> for ExportRefused {
-    ghost use Rattle.lab_files.specs.declared.networks.ExportRefused.TheVariants.{Print};
-
-    ghost from_gives = { λ refused e. e ≡ Print refused };
-
-    fn from(refused: PrintRefused) -> Self {
-        ExportRefused::Print(refused)
-    }
-}
-
 /// Prints a network in this form. Its nodes are called by these names, and by their numbers where they have none.
 pub fn export_graph<O: Write>(
     alloc: Global,
@@ -70,7 +60,10 @@ pub fn export_graph<O: Write>(
     ensures untouched { IfErr result (λ refused. refused ≢ ExportRefused.Print PrintRefused.Output → out.new ≡ out.old) }
 {
     match text_in(alloc, graph, names, form)? {
-        Some(text) => Ok(print(out, &text)?),
+        Some(text) => match print(out, &text) {
+            Ok(()) => Ok(()),
+            Err(refused) => Err(ExportRefused::Print(refused)),
+        },
         None => Err(ExportRefused::Words),
     }
 }

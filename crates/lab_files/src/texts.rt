@@ -7,7 +7,7 @@ use edge_lists::{
     read_nodes, read_rows,
 };
 use graph_edits::MOST_NODES;
-use lab_parts::{told, told_at, told_memory};
+use lab_parts::{had, told, told_at, told_memory};
 use std::alloc::{AllocError, Global};
 use std::fmt::Display;
 use std::io::Write;
@@ -22,17 +22,12 @@ pub enum FileForm {
 
 /// The form of that name, where a list has its header so; or what isn't understood.
 pub fn form_named(name: &str, heading: Heading) -> Result<FileForm, &'static str> {
-    if name == "edges" {
-        return Ok(FileForm::Lines(Writing::Edges(heading, None)));
-    }
-    let form = if name == "dimacs" {
-        FileForm::Lines(Writing::Dimacs)
-    } else if name == "as-rel" {
-        FileForm::Lines(Writing::Relations)
-    } else if name == "json" {
-        FileForm::Json
-    } else {
-        return Err("--as takes edges, dimacs, as-rel or json");
+    let form = match name {
+        "edges" => return Ok(FileForm::Lines(Writing::Edges(heading, None))),
+        "dimacs" => FileForm::Lines(Writing::Dimacs),
+        "as-rel" => FileForm::Lines(Writing::Relations),
+        "json" => FileForm::Json,
+        _ => return Err("--as takes edges, dimacs, as-rel or json"),
     };
     if heading != Heading::ByWords {
         return Err("--header and --no-header go with edge lists");
@@ -146,10 +141,7 @@ pub fn network_in<E: Write>(
     let form = match form {
         Some(form) => form,
         None if begins_object(text) => FileForm::Json,
-        None => match form_of(alloc, text) {
-            Ok(writing) => FileForm::Lines(writing),
-            Err(_) => return Err(told_memory(err)),
-        },
+        None => FileForm::Lines(had(form_of(alloc, text), err)?),
     };
     match (form, scale) {
         (FileForm::Lines(Writing::Edges(heading, _)), Some(scale)) => {
@@ -192,16 +184,15 @@ fn lines_in<E: Write>(
     ensures { IfErr result IsRefusal }
 {
     let (nodes, labels) = nodes_in(alloc, file, text, writing, err)?;
-    match read_rows(alloc, text, writing) {
-        Ok(Ok(rows)) => Ok(Listed {
+    match had(read_rows(alloc, text, writing), err)? {
+        Ok(rows) => Ok(Listed {
             form: FileForm::Lines(writing),
             rows,
             nodes,
             by_names: matches!(writing, Writing::Relations) || !labels.is_empty(),
             labels,
         }),
-        Ok(Err(refused)) => Err(told_at(err, 2, file, refused.number, refused.form)),
-        Err(_) => Err(told_memory(err)),
+        Err(refused) => Err(told_at(err, 2, file, refused.number, refused.form)),
     }
 }
 
@@ -209,24 +200,22 @@ fn lines_in<E: Write>(
 fn links_in<E: Write>(alloc: Global, file: &str, text: &str, err: &mut E) -> Result<Listed, u8>
     ensures { IfErr result IsRefusal }
 {
-    match read_links(alloc, text) {
-        Ok(Ok(links)) => Ok(Listed {
+    match had(read_links(alloc, text), err)? {
+        Ok(links) => Ok(Listed {
             form: FileForm::Json,
             rows: links.rows,
             nodes: None,
             labels: links.labels,
             by_names: !links.by_numbers,
         }),
-        Ok(Err(LineRefused { number, form })) => {
+        Err(LineRefused { number, form }) => {
             let place = match form {
                 Form::Node => Place::Node,
-                Form::Link => Place::Link,
-                Form::Weight => Place::Link,
+                Form::Link | Form::Weight => Place::Link,
                 _ => Place::Line,
             };
             Err(told_in(err, 2, file, place, number, form))
         }
-        Err(_) => Err(told_memory(err)),
     }
 }
 
@@ -240,10 +229,8 @@ fn nodes_in<E: Write>(
 ) -> Result<(Option<u16>, Vec<String>), u8>
     ensures { IfErr result IsRefusal }
 {
-    let Nodes { line, count, names } = match read_nodes(alloc, text, writing) {
-        Ok(Some(said)) => said,
-        Ok(None) => return Ok((None, Vec::new(alloc))),
-        Err(_) => return Err(told_memory(err)),
+    let Some(Nodes { line, count, names }) = had(read_nodes(alloc, text, writing), err)? else {
+        return Ok((None, Vec::new(alloc)));
     };
     let nodes = match number(alloc, count, MOST_NODES as u64) {
         Ok(Some(nodes)) if nodes >= 1 => nodes as u16,
@@ -254,17 +241,11 @@ fn nodes_in<E: Write>(
         let text = "behind `# nodes=N` stand N lines `# NAME`, or none";
         return Err(told_at(err, 2, file, line, text));
     }
-    match Names::from_lines(alloc, &names, MOST_NODES) {
-        Ok(Ok(_)) => match texts_of(alloc, &names) {
-            Ok(labels) => Ok((Some(nodes), labels)),
-            Err(_) => Err(told_memory(err)),
-        },
-        Ok(Err(refused)) => {
-            let number = refused.number.saturating_add(line);
-            Err(told_at(err, 2, file, number, refused.form))
-        }
-        Err(_) => Err(told_memory(err)),
+    if let Err(refused) = had(Names::from_lines(alloc, &names, MOST_NODES), err)? {
+        let number = refused.number.saturating_add(line);
+        return Err(told_at(err, 2, file, number, refused.form));
     }
+    Ok((Some(nodes), had(texts_of(alloc, &names), err)?))
 }
 
 fn texts_of(alloc: Global, names: &[&str]) -> Result<Vec<String>, AllocError> {

@@ -24,38 +24,24 @@ use std::thread::Threads;
 pub fn grammar<'a>(alloc: Global) -> Result<Command<'a>, AllocError>
     ensures { IfOk result (λ command. IsCommandOf command landmarks_app) }
 {
-    command(
-        alloc,
-        "landmarks",
-        "Chooses landmarks under which no node's table is large, and prints them for --words",
-        &[
-            device(),
-            value(
-                "seed",
-                "S",
-                "The seed of draw, with which the choice is compared, 0 where none is named",
-            ),
-            value(
-                "start",
-                "START",
-                "With which landmarks it begins: none, draw, degree or best, the best of these, as without it",
-            ),
-            value(
-                "most-entries",
-                "M",
-                "How many entries and members a table may have, else four times the square root of the nodes",
-            ),
-            value(
-                "most",
-                "N",
-                "How many landmarks there may be, else four times the square root of the nodes",
-            ),
-            flag(
-                "figures",
-                "Prints the figures behind the landmarks, and not on standard error",
-            ),
-        ],
-    )
+    let about =
+        "Chooses landmarks under which no node's table is large, and prints them for --words";
+    let seed = "The seed of draw, with which the choice is compared, 0 where none is named";
+    let start =
+        "With which landmarks it begins: none, draw, degree or best, the best of these, as without it";
+    let entries =
+        "How many entries and members a table may have, else four times the square root of the nodes";
+    let most = "How many landmarks there may be, else four times the square root of the nodes";
+    let figures = "Prints the figures behind the landmarks, and not on standard error";
+    let said = [
+        device(),
+        value("seed", "S", seed),
+        value("start", "START", start),
+        value("most-entries", "M", entries),
+        value("most", "N", most),
+        flag("figures", figures),
+    ];
+    command(alloc, "landmarks", about, &said)
 }
 
 /// Chooses landmarks for the device that these matches name, prints them on `out`, and answers the exit status. What went wrong is told on
@@ -145,19 +131,13 @@ fn wanted_in(
 fn start_in(text: Option<&str>) -> Option<Option<Start>>
     ensures { IfSome result (IsStart (option_map (λ text. text.now) text.entry)) }
 {
-    let Some(text) = text else {
-        return Some(None);
-    };
-    if text == "best" {
-        Some(None)
-    } else if text == "none" {
-        Some(Some(Start::None))
-    } else if text == "draw" {
-        Some(Some(Start::Draw))
-    } else if text == "degree" {
-        Some(Some(Start::Degree))
-    } else {
-        None
+    match text {
+        None => Some(None),
+        Some("best") => Some(None),
+        Some("none") => Some(Some(Start::None)),
+        Some("draw") => Some(Some(Start::Draw)),
+        Some("degree") => Some(Some(Start::Degree)),
+        _ => None,
     }
 }
 

@@ -14,8 +14,8 @@ use command_output::{Ended, Fault};
 use disk_trait::Disk;
 use lab_files::names_beside;
 use lab_parts::{
-    Places, Sources, all_given, command, fault_of, given, loaded_of, many, optional, told,
-    told_memory, told_of, usual, value, word,
+    Places, Sources, all_given, command, device, fault_of, given, loaded_of, many, optional, told,
+    told_memory, told_of, usual, value,
 };
 use requests::{SESSIONS, WORN_LIMIT};
 use std::alloc::{AllocError, Global};
@@ -30,23 +30,15 @@ pub fn grammar<'a>(alloc: Global) -> Result<Command<'a>, AllocError>
     ensures { IfOk result (λ command. IsCommandOf command edit_app) }
 {
     let about = "Makes one change of a device, all operations or none";
+    let session = "The session, 0 to 63; 0 where it is left out";
+    let ticket = "The ticket; the next one where it is left out";
+    let ops =
+        "add:A:B:W, set:A:B:W or cut:A:B; a node is a name, or #5; a name with a colon stands in quotation marks";
     let said = [
-        word("device", "DEVICE", "The file of a device"),
-        value(
-            "session",
-            "S",
-            "The session, 0 to 63; 0 where it is left out",
-        ),
-        value(
-            "ticket",
-            "T",
-            "The ticket; the next one where it is left out",
-        ),
-        many(
-            "ops",
-            "OP",
-            "add:A:B:W, set:A:B:W or cut:A:B; a node is a name, or #5; a name with a colon stands in quotation marks",
-        ),
+        device(),
+        value("session", "S", session),
+        value("ticket", "T", ticket),
+        many("ops", "OP", ops),
     ];
     command(alloc, "edit", about, &said)
 }

@@ -5,7 +5,7 @@ ghost use Rattle.lab_parts.specs.Devices.{IsRefusal};
 use command_output::Fault;
 use lab_parts::{told, told_of};
 use node_names::OpRefused;
-use std::alloc::{AllocError, AllocFailed};
+use std::alloc::AllocError;
 use std::io::Write;
 
 /// Why what is asked for by names isn't answered.
@@ -46,16 +46,6 @@ impl<'a> From<OpRefused<'a>> for AskedRefused<'a> {
     }
 }
 
-impl<'a> From<Fault> for AskedRefused<'a> {
-    ghost use Rattle.lab_names.specs.declared.refused.AskedRefused.TheVariants.{Fault};
-
-    ghost from_gives = { λ fault e. e ≡ Fault fault };
-
-    fn from(fault: Fault) -> Self {
-        AskedRefused::Fault(fault)
-    }
-}
-
 impl<'a> From<AllocError> for AskedRefused<'a> {
     ghost use Rattle.command_output.specs.declared.fault.Fault.TheVariants.{Memory};
     ghost use Rattle.lab_names.specs.declared.refused.AskedRefused.TheVariants.{Fault};
@@ -63,17 +53,6 @@ impl<'a> From<AllocError> for AskedRefused<'a> {
     ghost from_gives = { λ _ e. e ≡ Fault Memory };
 
     fn from(_: AllocError) -> Self {
-        AskedRefused::Fault(Fault::Memory)
-    }
-}
-
-impl<'a, T: Drop> From<AllocFailed<T>> for AskedRefused<'a> {
-    ghost use Rattle.command_output.specs.declared.fault.Fault.TheVariants.{Memory};
-    ghost use Rattle.lab_names.specs.declared.refused.AskedRefused.TheVariants.{Fault};
-
-    ghost from_gives = { λ _ e. e ≡ Fault Memory };
-
-    fn from(_: AllocFailed<T>) -> Self {
         AskedRefused::Fault(Fault::Memory)
     }
 }

@@ -24,15 +24,8 @@ pub fn grammar<'a>(alloc: Global) -> Result<Command<'a>, AllocError>
     ensures { IfOk result (λ command. IsCommandOf command route_app) }
 {
     let about = "Prints the way of a packet, a line for each two nodes";
-    let said = [
-        device(),
-        landmarks(),
-        many(
-            "nodes",
-            "NODE",
-            "A node that sends, and one that it sends to, so for each packet: a name, or #5",
-        ),
-    ];
+    let nodes = "A node that sends, and one that it sends to, so for each packet: a name, or #5";
+    let said = [device(), landmarks(), many("nodes", "NODE", nodes)];
     command(alloc, "route", about, &said)
 }
 

@@ -18,12 +18,9 @@ use std::io::Write;
 pub fn grammar<'a>(alloc: Global) -> Result<Command<'a>, AllocError>
     ensures { IfOk result (λ command. IsCommandOf command show_app) }
 {
-    command(
-        alloc,
-        "show",
-        "Prints how many changes and edges a device has, and its edges, nodes by their names",
-        &[device()],
-    )
+    let about =
+        "Prints how many changes and edges a device has, and its edges, nodes by their names";
+    command(alloc, "show", about, &[device()])
 }
 
 /// Prints what the device that these matches name holds, and answers the exit status.

@@ -1,5 +1,5 @@
 //! The command `export`.
-ghost use Rattle.std.specs.Prelude.{◌≡◌, ◌≢◌, ◌≤◌, IfErr, IfOk, IfSome, IsTrue, None, OnOk, Some, codes, option_map};
+ghost use Rattle.std.specs.Prelude.{◌≡◌, ◌≢◌, ◌≤◌, IfErr, IfOk, IfSome, None, OnOk, Some, codes, option_map};
 ghost use Rattle.clap.specs.Walk.{first_of};
 ghost use Rattle.lab_networks.specs.Exports.{DoesExport, IsForm, PrintsCalled, PrintsIn};
 ghost use Rattle.lab_networks.specs.Words.{export_app};
@@ -24,24 +24,15 @@ use value_syntax::landmark_words;
 pub fn grammar<'a>(alloc: Global) -> Result<Command<'a>, AllocError>
     ensures { IfOk result (λ command. IsCommandOf command export_app) }
 {
-    command(
-        alloc,
-        "export",
-        "Prints the network of a device",
-        &[
-            device(),
-            value(
-                "as",
-                "FORM",
-                "edges (an edge list, as without it), csv, dimacs, dot or json",
-            ),
-            value(
-                "words",
-                "W",
-                "With dot: marks the landmarks none, at:2,5 or draw:7, and the nodes that are nearest to each",
-            ),
-        ],
-    )
+    let form = "edges (an edge list, as without it), csv, dimacs, dot or json";
+    let words =
+        "With dot: marks the landmarks none, at:2,5 or draw:7, and the nodes that are nearest to each";
+    let said = [
+        device(),
+        value("as", "FORM", form),
+        value("words", "W", words),
+    ];
+    command(alloc, "export", "Prints the network of a device", &said)
 }
 
 /// Prints the network of a device, and answers the exit status.
@@ -83,24 +74,13 @@ fn form_in(alloc: Global, found: &ArgMatches<'_>) -> Result<Result<Form, &'stati
         (IsForm (first_of (codes "as") (rows_in found.now)) (first_of (codes "words") (rows_in found.now)))) }
 {
     let (form, words) = (given(found, "as"), given(found, "words"));
-    if is_dot(form) {
+    if let Some("dot") = form {
         return dot_in(alloc, words);
     }
-    let Some(form) = plain_form(form) else {
-        return Ok(Err("--as takes edges, csv, dimacs, dot or json"));
-    };
-    match words {
-        Some(_) => Ok(Err("--words goes with --as dot")),
-        None => Ok(Ok(form)),
-    }
-}
-
-fn is_dot(form: Option<&str>) -> bool
-    ensures { IsTrue result → option_map (λ text. text.now) form.entry ≡ Some (codes "dot") }
-{
-    match form {
-        Some(text) => text == "dot",
-        None => false,
+    match (plain_form(form), words) {
+        (Some(form), None) => Ok(Ok(form)),
+        (Some(_), Some(_)) => Ok(Err("--words goes with --as dot")),
+        (None, _) => Ok(Err("--as takes edges, csv, dimacs, dot or json")),
     }
 }
 
@@ -108,19 +88,13 @@ fn is_dot(form: Option<&str>) -> bool
 fn plain_form(form: Option<&str>) -> Option<Form>
     ensures { IfSome result (IsForm (option_map (λ text. text.now) form.entry) None) }
 {
-    let Some(text) = form else {
-        return Some(Form::Edges);
-    };
-    if text == "edges" {
-        Some(Form::Edges)
-    } else if text == "csv" {
-        Some(Form::Csv)
-    } else if text == "dimacs" {
-        Some(Form::Dimacs)
-    } else if text == "json" {
-        Some(Form::Json)
-    } else {
-        None
+    match form {
+        None => Some(Form::Edges),
+        Some("edges") => Some(Form::Edges),
+        Some("csv") => Some(Form::Csv),
+        Some("dimacs") => Some(Form::Dimacs),
+        Some("json") => Some(Form::Json),
+        _ => None,
     }
 }
 

@@ -22,63 +22,41 @@ use graph_edits::MOST_NODES;
 use lab_files::beside::{Beside, Kept, called_in, kept_alone, kept_of, settle};
 use lab_files::{FileForm, Listed, Place, form_named, network_in, text_of, told_in};
 use lab_parts::{
-    Places, Sources, command, fault_of, flag, given, is_given, store_in, told, told_memory,
-    told_of, value, word,
+    Places, Sources, command, fault_of, flag, given, had, is_given, optional, store_in, told,
+    told_memory, told_of, value, word,
 };
 use network_import::{NamesAt, incoming_edges};
 use std::alloc::{AllocError, Global};
 use std::fs::{self, File};
 use std::io::{IsTerminal, Write};
 use std::rt::Files;
-use value_syntax::number;
 
 /// Its grammar.
 pub fn grammar<'a>(alloc: Global) -> Result<Command<'a>, AllocError>
     ensures { IfOk result (λ command. IsCommandOf command import_app) }
 {
-    command(
-        alloc,
-        "import",
-        "Brings a network to a device, which is made where it isn't there",
-        &[
-            word(
-                "device",
-                "DEVICE",
-                "The device's file; how its nodes are called is kept beside it, in DEVICE.names",
-            ),
-            word(
-                "file",
-                "FILE",
-                "A network: an edge list with a line A B W or A,B,W for each edge, or what --as says",
-            ),
-            value(
-                "as",
-                "FORM",
-                "The form of FILE: edges, dimacs, as-rel or json; else its lines tell",
-            ),
-            flag(
-                "update",
-                "Gives edges that are there their weights in FILE; else they are refused",
-            ),
-            flag(
-                "least",
-                "Takes lines with the same edge as one, of the least weight",
-            ),
-            value(
-                "scale",
-                "K",
-                "Multiplies the weights of an edge list, which may be decimal, and rounds them",
-            ),
-            flag("names", "Takes all ends of edges for names, numbers too"),
-            flag("header", "Takes the first line for a header"),
-            flag("no-header", "Takes no line for a header"),
-            value(
-                "nodes",
-                "N",
-                "How many nodes a device has that is made; else as many as FILE names",
-            ),
-        ],
-    )
+    let about = "Brings a network to a device, which is made where it isn't there";
+    let device = "The device's file; how its nodes are called is kept beside it, in DEVICE.names";
+    let file =
+        "A network: an edge list with a line A B W or A,B,W for each edge, or what --as says";
+    let form = "The form of FILE: edges, dimacs, as-rel or json; else its lines tell";
+    let update = "Gives edges that are there their weights in FILE; else they are refused";
+    let least = "Takes lines with the same edge as one, of the least weight";
+    let scale = "Multiplies the weights of an edge list, which may be decimal, and rounds them";
+    let nodes = "How many nodes a device has that is made; else as many as FILE names";
+    let said = [
+        word("device", "DEVICE", device),
+        word("file", "FILE", file),
+        value("as", "FORM", form),
+        flag("update", update),
+        flag("least", least),
+        value("scale", "K", scale),
+        flag("names", "Takes all ends of edges for names, numbers too"),
+        flag("header", "Takes the first line for a header"),
+        flag("no-header", "Takes no line for a header"),
+        value("nodes", "N", nodes),
+    ];
+    command(alloc, "import", about, &said)
 }
 
 /// Brings a network to a device, and answers the exit status.
@@ -132,19 +110,15 @@ fn numbers_in(
     alloc: Global,
     found: &ArgMatches<'_>,
 ) -> Result<Result<(Option<u16>, Option<u32>), &'static str>, AllocError> {
-    let nodes = match given(found, "nodes") {
-        Some(word) => match number(alloc, word, MOST_NODES as u64)? {
-            Some(nodes) if nodes >= 1 => Some(nodes as u16),
-            _ => return Ok(Err("--nodes takes 1 to 16384")),
-        },
-        None => None,
+    let nodes = match optional(alloc, found, "nodes", MOST_NODES as u64)? {
+        Some(Some(nodes)) if nodes > 0 => Some(nodes as u16),
+        Some(None) => None,
+        _ => return Ok(Err("--nodes takes 1 to 16384")),
     };
-    let scale = match given(found, "scale") {
-        Some(word) => match number(alloc, word, 1_000_000)? {
-            Some(scale) if scale >= 1 => Some(scale as u32),
-            _ => return Ok(Err("--scale takes 1 to 1000000")),
-        },
-        None => None,
+    let scale = match optional(alloc, found, "scale", 1_000_000)? {
+        Some(Some(scale)) if scale > 0 => Some(scale as u32),
+        Some(None) => None,
+        _ => return Ok(Err("--scale takes 1 to 1000000")),
     };
     Ok(Ok((nodes, scale)))
 }
@@ -370,10 +344,7 @@ impl<R: Files<File = File> + Places + AllocGlobal> Import<'_, R> {
             return self.named(listed, Names::new(alloc), most, err);
         }
         let mut list = self.numbered(listed, most, "with --names all ends are names", err)?;
-        match String::from_str(alloc, NUMBERS) {
-            Ok(text) => list.text = Some(text),
-            Err(_) => return Err(told_memory(err)),
-        }
+        list.text = Some(had(String::from_str(alloc, NUMBERS), err)?);
         Ok(list)
     }
 
@@ -396,8 +367,8 @@ impl<R: Files<File = File> + Places + AllocGlobal> Import<'_, R> {
         let (rows, first) = (&listed.rows, listed.first());
         let last = listed.nodes.unwrap_or(most).saturating_sub(1);
         let labelled = self.labelled(listed, last, why, err)?;
-        match by_numbers(self.rt.alloc(), rows, first, last) {
-            Ok(Ok(edges)) => {
+        match had(by_numbers(self.rt.alloc(), rows, first, last), err)? {
+            Ok(edges) => {
                 let nodes = nodes_of(&edges).max(listed.nodes.unwrap_or(labelled));
                 let edges = self.once(listed, edges, err)?;
                 Ok(List {
@@ -407,11 +378,10 @@ impl<R: Files<File = File> + Places + AllocGlobal> Import<'_, R> {
                     place: listed.place(),
                 })
             }
-            Ok(Err(place)) => match rows.get(place) {
+            Err(place) => match rows.get(place) {
                 Some(row) => Err(self.told_end(listed, row, last, why, err)),
                 None => Err(1),
             },
-            Err(_) => Err(told_memory(err)),
         }
     }
 
@@ -427,9 +397,9 @@ impl<R: Files<File = File> + Places + AllocGlobal> Import<'_, R> {
         if listed.is_edge_list() && !self.by_least && !self.updates {
             return Ok(edges);
         }
-        match each_once(self.rt.alloc(), &edges, self.by_least) {
-            Ok(Ok(taken)) => Ok(taken),
-            Ok(Err(clash)) => {
+        match had(each_once(self.rt.alloc(), &edges, self.by_least), err)? {
+            Ok(taken) => Ok(taken),
+            Err(clash) => {
                 let (place, first) = (listed.place(), clash.first);
                 let word = place.word();
                 let text = format_args!(
@@ -437,7 +407,6 @@ impl<R: Files<File = File> + Places + AllocGlobal> Import<'_, R> {
                 );
                 Err(told_in(err, 2, self.file, place, clash.second, text))
             }
-            Err(_) => Err(told_memory(err)),
         }
     }
 
@@ -455,13 +424,12 @@ impl<R: Files<File = File> + Places + AllocGlobal> Import<'_, R> {
         let mut number: usize = 0;
         for label in &listed.labels {
             number = number.saturating_add(1);
-            match node_in(self.rt.alloc(), label.as_str(), 0, last) {
-                Ok(Some(node)) => nodes = nodes.max(node.saturating_add(1)),
-                Ok(None) => {
+            match had(node_in(self.rt.alloc(), label.as_str(), 0, last), err)? {
+                Some(node) => nodes = nodes.max(node.saturating_add(1)),
+                None => {
                     let text = format_args!("`{label}` is no number of a node, 0 to {last}: {why}");
                     return Err(told_in(err, 1, self.file, Place::Node, number, text));
                 }
-                Err(_) => return Err(told_memory(err)),
             }
         }
         Ok(nodes)
@@ -484,12 +452,8 @@ impl<R: Files<File = File> + Places + AllocGlobal> Import<'_, R> {
             Ok(None) => row.a.as_str(),
             Err(_) => return told_memory(err),
         };
-        let (file, place, line, last) = (
-            self.file,
-            listed.place(),
-            row.line,
-            last as u32 + first as u32,
-        );
+        let (file, place, line) = (self.file, listed.place(), row.line);
+        let last = last as u32 + first as u32;
         if first == 1 {
             let text = format_args!("`{end}` is no number of a node, 1 to {last}");
             return told_in(err, 1, file, place, line, text);
@@ -512,35 +476,26 @@ impl<R: Files<File = File> + Places + AllocGlobal> Import<'_, R> {
         let mut number: usize = 0;
         for label in &listed.labels {
             number = number.saturating_add(1);
-            match names.number_of(label.as_str(), most) {
-                Ok(Some(_)) => {}
-                Ok(None) => {
-                    let text = format_args!("{}, which are {most}", NameForm::TooMany);
-                    let (place, number) = listed.label_at(number);
-                    return Err(told_in(err, 1, self.file, place, number, text));
-                }
-                Err(_) => return Err(told_memory(err)),
+            if had(names.number_of(label.as_str(), most), err)?.is_none() {
+                let text = format_args!("{}, which are {most}", NameForm::TooMany);
+                let (place, number) = listed.label_at(number);
+                return Err(told_in(err, 1, self.file, place, number, text));
             }
         }
-        let edges = match names.take_rows(alloc, &listed.rows, most) {
-            Ok(Ok(edges)) => self.once(listed, edges, err)?,
-            Ok(Err(refused)) => {
+        let edges = match had(names.take_rows(alloc, &listed.rows, most), err)? {
+            Ok(edges) => self.once(listed, edges, err)?,
+            Err(refused) => {
                 let text = format_args!("{}, which are {most}", refused.form);
                 return Err(told_in(err, 1, self.file, listed.place(), refused.number, text));
             }
-            Err(_) => return Err(told_memory(err)),
         };
         let nodes = u16::try_from(names.list().len()).unwrap_or(u16::MAX);
-        let nodes = nodes.max(listed.nodes.unwrap_or(0));
-        match names.written(alloc) {
-            Ok(text) => Ok(List {
-                edges,
-                text: Some(text),
-                nodes,
-                place: listed.place(),
-            }),
-            Err(_) => Err(told_memory(err)),
-        }
+        Ok(List {
+            edges,
+            text: Some(had(names.written(alloc), err)?),
+            nodes: nodes.max(listed.nodes.unwrap_or(0)),
+            place: listed.place(),
+        })
     }
 
     // ---- the device
@@ -565,8 +520,7 @@ impl<R: Files<File = File> + Places + AllocGlobal> Import<'_, R> {
         };
         let has = store.nodes();
         if self.nodes.unwrap_or(has) != has {
-            let _told = writeln!(err, "tzlab: {device}: it has {has} nodes");
-            return Err(1);
+            return Err(told_of(err, device, format_args!("it has {has} nodes")));
         }
         Ok(Some(store))
     }
@@ -615,10 +569,8 @@ where
     ensures err { IfErr result (λ status. status ≡ 1) }
 {
     let alloc = import.rt.alloc();
-    let edges = match incoming_edges(alloc, store.graph(), import.updates, &list.edges) {
-        Ok(edges) => edges,
-        Err(_) => return Err(told_memory(err)),
-    };
+    let incoming = incoming_edges(alloc, store.graph(), import.updates, &list.edges);
+    let edges = had(incoming, err)?;
     let wanted = Wanted {
         edges: &edges,
         whole: is_new,
@@ -652,8 +604,7 @@ fn formatted<D: Disk + Drop>(alloc: Global, mut disk: D, nodes: u16) -> Result<S
 fn nodes_of(edges: &[Edge]) -> u16 {
     let mut nodes = 0;
     for edge in edges {
-        nodes = nodes.max(edge.a.saturating_add(1));
-        nodes = nodes.max(edge.b.saturating_add(1));
+        nodes = nodes.max(edge.a.max(edge.b).saturating_add(1));
     }
     nodes
 }

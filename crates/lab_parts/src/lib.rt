@@ -23,7 +23,7 @@ mod words;
 
 pub use sources::{Places, Sources};
 pub use stores::{fault_of, loaded_of, store_in};
-pub use telling::{PrintRefused, print, told, told_at, told_memory, told_of};
+pub use telling::{PrintRefused, had, print, told, told_at, told_memory, told_of};
 pub use words::{
     Said, all_given, command, device, flag, given, is_given, landmarks, landmarks_in, many,
     optional, usual, value, word,

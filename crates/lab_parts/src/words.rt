@@ -73,7 +73,7 @@ pub fn flag<'a>(name: &'a str, help: &'a str) -> Said<'a>
     of_kind(Kind::Flag, name, "", help)
 }
 
-/// The device of a command that only reads it.
+/// The device of a command.
 pub fn device<'a>() -> Said<'a>
     ensures { rule_for result ≡ word_rule (codes "device") }
 {
