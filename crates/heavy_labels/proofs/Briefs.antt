@@ -1,14 +1,11 @@
 -- What `number` lists is what the lines of the tree have at their heads.
 use Rattle.std.proofs.Common.{◌≡◌, ℕ, ◌+◌, Bool, true, false, List, [], ◌∷◌, ◌++◌, map, refl, sym, ap, subst, ◌∙◌, suc, length, arith, length-append}
 use Rattle.std.specs.Prelude.{None}
+use Rattle.std.proofs.lemmas.List.{map-append, length-map}
 use Rattle.route_tree.specs.Rose.{Forest, no_trees, twig, count, Tree, tree_size}
 use Rattle.heavy_labels.specs.Numbering.{Line, place, lights_at, lines, tree_lines}
 use Rattle.heavy_labels.specs.Numbered.{Brief, IsNumberedFrom, brief, briefs, tree_briefs, head_brief, seen}
 use Rattle.heavy_labels.specs.declared.numbered_member.NumberedMember.{NumberedMember}
-
-map_append : (xs ys : List Line) → map head_brief (xs ++ ys) ≡ map head_brief xs ++ map head_brief ys
-map_append [] ys = refl
-map_append (x ∷ xs) ys = ap (λ z. head_brief x ∷ z) (map_append xs ys)
 
 pub lines_are : (fo : Forest) (h : Bool) (f : ℕ) (ls : List ℕ) (above : Line) → map head_brief (lines fo h f ls above) ≡ briefs fo h f ls
 lines_are no_trees h f ls above = refl
@@ -16,7 +13,7 @@ lines_are (twig n u d below beside) h f ls above =
     let ls1 = lights_at h ls d in
     let here = place n u d below f ls1 above ∷ above in
     ap (λ z. brief n u d below f ls1 ∷ z)
-    (map_append (lines below true (f + 1) ls1 here) (lines beside false (f + 1 + count below) ls above)
+    (map-append head_brief (lines below true (f + 1) ls1 here) (lines beside false (f + 1 + count below) ls above)
     ∙ ap (λ z. z ++ map head_brief (lines beside false (f + 1 + count below) ls above)) (lines_are below true (f + 1) ls1 here)
     ∙ ap (λ z. briefs below true (f + 1) ls1 ++ z) (lines_are beside false (f + 1 + count below) ls above))
 
@@ -50,19 +47,9 @@ briefs_numbered (twig n u d below beside) h f ls = (
       (briefs_numbered beside false (f + 1 + count below) ls)),
 )
 
-pub tree_briefs_count : (t : Tree) (f : ℕ) (ls : List ℕ) → length (tree_briefs t f ls) ≡ tree_size t
-tree_briefs_count t f ls = (let e = briefs_count t.below true (f + 1) ls in omega (arith, e))
+-- what is listed, where it is what the definition has
+pub listed_count : (t : Tree) (f : ℕ) (ls : List ℕ) (all : List NumberedMember) → map seen all ≡ tree_briefs t f ls → length all ≡ tree_size t
+listed_count t f ls all e = (let n = length-map all seen in let m = ap (λ (z : List Brief). length z) e in let k = briefs_count t.below true (f + 1) ls in omega (arith, n, m, k))
 
 pub tree_briefs_numbered : (t : Tree) (f : ℕ) (ls : List ℕ) → IsNumberedFrom f (tree_briefs t f ls)
 tree_briefs_numbered t f ls = (refl, briefs_numbered t.below true (f + 1) ls)
-
--- what is listed, where it is what the definition has
-pub listed_count : (t : Tree) (f : ℕ) (ls : List ℕ) (all : List NumberedMember) → map seen all ≡ tree_briefs t f ls → length all ≡ tree_size t
-listed_count t f ls all e = sym (map_count all) ∙ ap (λ (z : List Brief). length z) e ∙ tree_briefs_count t f ls
-  where
-    map_count : (xs : List NumberedMember) → length (map seen xs) ≡ length xs
-    map_count [] = refl
-    map_count (x ∷ xs) = omega (arith, map_count xs)
-
-pub listed_numbered : (t : Tree) (f : ℕ) (ls : List ℕ) (all : List Brief) → all ≡ tree_briefs t f ls → IsNumberedFrom f all
-listed_numbered t f ls all e = subst (IsNumberedFrom f) (sym e) (tree_briefs_numbered t f ls)

@@ -1,96 +1,90 @@
--- What the members have by their nodes is what the lines of their tree have.
-use Rattle.std.proofs.Common.{◌≡◌, ℕ, zero, suc, ◌+◌, ◌<◌, Bool, true, false, ◌⊎◌, inl, inr, List, [], ◌∷◌, ◌++◌, length, take, drop, get_or, refl, sym, subst, arith}
+-- What the lines of a member's children are: each is of a child, with the number that is ahead by the members before it.
+use Rattle.std.proofs.Common.{◌≡◌, ◌≢◌, ℕ, zero, suc, ◌+◌, ◌<◌, Bool, true, false, inl, inr, List, [], ◌∷◌, ◌++◌, length, take, drop, get_or, refl, sym, subst, ap, arith, length-take-le}
+use Rattle.std.proofs.lemmas.Bool.{cases_order}
 use Rattle.route_tree.specs.Rose.{Tree, tree_size, of_list, count}
-use Rattle.route_tree.specs.Order.{heaviest}
 use Rattle.route_tree.specs.Front.{heavy_at, heavy_to_front}
 use Rattle.route_tree.proofs.Heaviest.{heavy_here, heavy_size}
-use Rattle.route_tree.specs.Growth.{is_parent, trees_on, subtrees, waiting}
-use Rattle.route_tree.specs.declared.member.Member.{Member}
-use Rattle.route_tree.proofs.Ascending.{Has, ascending_has, has_permutation}
-use Rattle.route_tree.proofs.Orders.{front_is, permutes_front}
-use Rattle.route_tree.proofs.Waiting.{closed}
+use Rattle.route_tree.proofs.Orders.{front_is}
 use Rattle.heavy_labels.specs.Numbering.{lights_at}
 use Rattle.heavy_labels.specs.Numbered.{Brief, IsListed, briefs, tree_briefs}
-use Rattle.heavy_labels.proofs.FlatForms.{AreNumbered, AllNumbered, AreAhead, AllAhead, AllListed, FlatMembersAreLines}
+use Rattle.heavy_labels.specs.ByNode.{no_tree}
+use Rattle.heavy_labels.specs.HeavyKids.{IsAhead}
+use Rattle.heavy_labels.proofs.OneOf.{in_append}
 
--- what hangs on a node is one of the members' trees
-on_has : (n : ℕ) (ms : List Member) (t : Tree) → Has t (trees_on n ms (subtrees ms)) → Has t (subtrees ms)
-on_has n [] t h = h
-on_has n (m ∷ ms) t h = go (is_parent n m.parent) refl h (on_has n ms t)
-  where
-    go : (b : Bool) → is_parent n m.parent ≡ b → Has t (trees_on n (m ∷ ms) (subtrees (m ∷ ms))) → (Has t (trees_on n ms (subtrees ms)) → Has t (subtrees ms)) → Has t (subtrees (m ∷ ms))
-    go true e k ih = cases (rw e at k) ih
-      where
-        cases : (t ≡ closed m ms) ⊎ Has t (trees_on n ms (subtrees ms)) → (Has t (trees_on n ms (subtrees ms)) → Has t (subtrees ms)) → Has t (subtrees (m ∷ ms))
-        cases (inl q) ih = inl q
-        cases (inr k) ih = inr (ih k)
-    go false e k ih = inr (ih (rw e at k))
+-- where the trees us but for that at i stand one behind the other from f on, b is of the tree at `at`, which has this number
+record Light (us : List Tree) (i f : ℕ) (ls : List ℕ) (b : Brief) : Type 0 where
+  at : ℕ
+  there : at < length us
+  other : at ≢ i
+  number : ℕ
+  before : at < i → number ≡ f + count (of_list (take at us))
+  behind : i < at → number + tree_size (get_or us i no_tree) ≡ f + count (of_list (take at us))
+  listed : IsListed b (tree_briefs (get_or us at no_tree) number (lights_at false ls (get_or us at no_tree).down))
 
--- the children of a member are trees of the members behind it
-child_has : (n : ℕ) (ms : List Member) (t : Tree) → Has t (heavy_to_front (waiting n ms)) → Has t (subtrees ms)
-child_has n ms t h =
-    on_has n ms t (ascending_has (trees_on n ms (subtrees ms)) t (has_permutation (waiting n ms) (heavy_to_front (waiting n ms)) (permutes_front (waiting n ms)) t h))
+none_left_out : (us : List Tree) → take (length us) us ++ drop (suc (length us)) us ≡ us
+none_left_out [] = refl
+none_left_out (t ∷ ts) = ap (λ z. t ∷ z) (none_left_out ts)
 
-listed_append : (b : Brief) (xs ys : List Brief) → IsListed b (xs ++ ys) → IsListed b xs ⊎ IsListed b ys
-listed_append b [] ys h = inr h
-listed_append b (x ∷ xs) ys (inl e) = inl (inl e)
-listed_append b (x ∷ xs) ys (inr h) = elim (listed_append b xs ys h) [ inl i ↦ inl (inr i) | inr i ↦ inr i ]
+light : (us : List Tree) (i f : ℕ) (ls : List ℕ) (b : Brief) → IsListed b (briefs (of_list (take i us ++ drop (suc i) us)) false f ls) → Light us i f ls b
+light [] zero f ls b h = absurd h
+light [] (suc i) f ls b h = absurd h
+light (t ∷ ts) zero f ls b h =
+    let r = light ts (length ts) f ls b (subst (λ z. IsListed b (briefs (of_list z) false f ls)) (sym (none_left_out ts)) h) in
+    let n = r.before r.there in
+    record { at = suc r.at; there = omega (arith, r.there); other = λ e. absurd (omega (arith, e)); number = r.number; before = λ w. absurd (omega (arith, w)); behind = λ _. omega (arith, n); listed = r.listed }
+light (t ∷ ts) (suc i) f ls b h = elim (in_append b (tree_briefs t f (lights_at false ls t.down)) (briefs (of_list (take i ts ++ drop (suc i) ts)) false (f + 1 + count t.below) ls) h) [
+  | inl k ↦ record { at = 0; there = omega arith; other = λ e. absurd (omega (arith, e)); number = f; before = λ _. omega arith; behind = λ w. absurd (omega (arith, w)); listed = k }
+  | inr k ↦ (
+      let r = light ts i (f + 1 + count t.below) ls b k in
+      record {
+        at = suc r.at;
+        there = omega (arith, r.there);
+        other = λ e. r.other (omega (arith, e));
+        number = r.number;
+        before = λ w. (let n = r.before (omega (arith, w)) in omega (arith, n));
+        behind = λ w. (let n = r.behind (omega (arith, w)) in omega (arith, n));
+        listed = r.listed;
+      })
+]
 
-module _ (first : ℕ → ℕ) (lights : ℕ → List ℕ) (all : List Brief) where
-  abbrev AreAllListed : Tree → Type 0
-  AreAllListed t = (b : Brief) → IsListed b (tree_briefs t (first t.node) (lights t.node)) → IsListed b all
+-- b is of the child at `at` of a member with the number f and the light ports ls, whose children are us in the order of nodes
+pub record Kid (us : List Tree) (f : ℕ) (ls : List ℕ) (b : Brief) : Type 0 where
+  pub at : ℕ
+  pub there : at < length us
+  pub number : ℕ
+  pub ahead : (v : ℕ) → IsAhead us (take at us) v → number ≡ f + v
+  pub flag : Bool
+  pub heavy : flag ≡ true → at ≡ heavy_at us
+  pub light : flag ≡ false → at ≢ heavy_at us
+  pub listed : IsListed b (tree_briefs (get_or us at no_tree) number (lights_at flag ls (get_or us at no_tree).down))
 
-  -- trees beside one another, each of which is listed
-  forest : (ts : List Tree) (h : Bool) (f : ℕ) (ls : List ℕ) → AreNumbered first lights h f ls ts → ((t : Tree) → Has t ts → AreAllListed t)
-      → (b : Brief) → IsListed b (briefs (of_list ts) h f ls) → IsListed b all
-  forest [] h f ls n each b i = absurd i
-  forest (t ∷ ts) h f ls n each b i =
-      let same : f + 1 + count t.below ≡ f + tree_size t = omega arith in
-      elim (listed_append b (tree_briefs t f (lights_at h ls t.down)) (briefs (of_list ts) false (f + 1 + count t.below) ls) i) [
-        | inl j ↦ each t (inl refl) b (subst (λ z. IsListed b (tree_briefs t (first t.node) z)) (sym n.1.0) (subst (λ z. IsListed b (tree_briefs t z (lights_at h ls t.down))) (sym n.0) j))
-        | inr j ↦ forest ts false (f + tree_size t) ls n.1.1 (λ u k. each u (inr k)) b (subst (λ z. IsListed b (briefs (of_list ts) false z ls)) same j)
-      ]
-
-  pub trees_listed : (ms : List Member) → AllNumbered first lights ms → AllListed first lights ms all → (t : Tree) → Has t (subtrees ms) → AreAllListed t
-  trees_listed [] n l t h b i = absurd h
-  trees_listed (m ∷ ms) n l t (inr h) b i = trees_listed ms n.1 l.1 t h b i
-  trees_listed (m ∷ ms) n l t (inl e) b i = head (subst (λ (z : Tree). IsListed b (tree_briefs z (first z.node) (lights z.node))) e i) (trees_listed ms n.1 l.1)
-    where
-      head : IsListed b (tree_briefs (closed m ms) (first m.node) (lights m.node)) → ((u : Tree) → Has u (subtrees ms) → AreAllListed u) → IsListed b all
-      head (inl q) ih = subst (λ z. IsListed z all) (sym q) l.0
-      head (inr k) ih = forest (heavy_to_front (waiting m.node ms)) true (first m.node + 1) (lights m.node) n.0 (λ u g. ih u (child_has m.node ms u g)) b k
-
--- ---- from the order of nodes to the order of the tree
-
-module _ (first : ℕ → ℕ) (lights : ℕ → List ℕ) (f : ℕ) (ls : List ℕ) where
-  ahead_heavy : (i next : ℕ) (us : List Tree) (d : Tree) → i < length us → AreAhead first lights f ls i next us → (first (get_or us i d).node ≡ f) × (lights (get_or us i d).node ≡ ls)
-  ahead_heavy i next [] d l h = absurd (omega arith)
-  ahead_heavy zero next (t ∷ ts) d l h = (h.0, h.1.0)
-  ahead_heavy (suc i) next (t ∷ ts) d l h = ahead_heavy i (next + tree_size t) ts d (omega arith) h.1.1
-
-  ahead_light : (i next : ℕ) (us : List Tree) → i < length us → AreAhead first lights f ls i next us → AreNumbered first lights false next ls (take i us ++ drop (suc i) us)
-  ahead_light i next [] l h = absurd (omega arith)
-  ahead_light zero next (t ∷ ts) l h = h.1.1
-  ahead_light (suc i) next (t ∷ ts) l h = (h.0, (h.1.0, ahead_light i (next + tree_size t) ts (omega arith) h.1.1))
-
-  pub ahead_numbered : (us : List Tree) → AreAhead first lights f ls (heavy_at us) (f + heaviest us) us → AreNumbered first lights true f ls (heavy_to_front us)
-  ahead_numbered [] h = tt
-  ahead_numbered (t ∷ ts) h =
-      let us = t ∷ ts in
-      let there = heavy_here t ts in
-      let heavy = ahead_heavy (heavy_at us) (f + heaviest us) us t there h in
-      subst (AreNumbered first lights true f ls) (sym (front_is us t there)) (
-        heavy.0,
-        (
-          heavy.1,
-          subst (λ n. AreNumbered first lights false (f + n) ls (take (heavy_at us) us ++ drop (suc (heavy_at us)) us)) (sym (heavy_size t ts t))
-              (ahead_light (heavy_at us) (f + heaviest us) us there h),
-        ),
-      )
-
-all_numbered : (first : ℕ → ℕ) (lights : ℕ → List ℕ) (ms : List Member) → AllAhead first lights ms → AllNumbered first lights ms
-all_numbered first lights [] h = tt
-all_numbered first lights (m ∷ ms) h = (ahead_numbered first lights (first m.node + 1) (lights m.node) (waiting m.node ms) h.0, all_numbered first lights ms h.1)
-
-pub flat_law : FlatMembersAreLines
-flat_law first lights m ms all n l d b i = trees_listed first lights all (m ∷ ms) (all_numbered first lights (m ∷ ms) n) l (closed m ms) (inl refl) b i
+pub kid_listed : (us : List Tree) (f : ℕ) (ls : List ℕ) (b : Brief) → IsListed b (briefs (of_list (heavy_to_front us)) true (f + 1) ls) → Kid us f ls b
+kid_listed [] f ls b h = absurd h
+kid_listed (t ∷ ts) f ls b h =
+    let us = t ∷ ts in
+    let i = heavy_at us in
+    let there = heavy_here t ts in
+    let g = get_or us i no_tree in
+    let size = heavy_size t ts no_tree in
+    elim (in_append b (tree_briefs g (f + 1) ls) (briefs (of_list (take i us ++ drop (suc i) us)) false (f + 1 + 1 + count g.below) ls) (subst (λ z. IsListed b (briefs (of_list z) true (f + 1) ls)) (front_is us no_tree there) h)) [
+      | inl k ↦ (
+          let n = length-take-le i us (omega (arith, there)) in
+          record { at = i; there = there; number = f + 1; ahead = λ v a. (let m = a.heavy n in omega (arith, m)); flag = true; heavy = λ _. refl; light = λ e. absurd cc; listed = k })
+      | inr k ↦ (
+          let r = light us i (f + 1 + 1 + count g.below) ls b k in
+          let n = length-take-le r.at us (omega (arith, r.there)) in
+          record {
+            at = r.at;
+            there = r.there;
+            number = r.number;
+            ahead = λ v a. elim (cases_order r.at i) [
+              | inl e ↦ absurd (r.other e)
+              | inr (inl w) ↦ (let c = r.before w in let m = a.before (omega (arith, n, w)) in omega (arith, c, m, size))
+              | inr (inr w) ↦ (let c = r.behind w in let m = a.behind (omega (arith, n, w)) in omega (arith, c, m, size))
+            ];
+            flag = false;
+            heavy = λ e. cc;
+            light = λ _. r.other;
+            listed = r.listed;
+          })
+    ]

@@ -2,7 +2,6 @@ pub mod AheadSteps
 pub mod BehindThem
 pub mod Bound
 pub mod Briefs
-pub mod FlatForms
 pub mod FlatLists
 pub mod FlatSteps
 pub mod HeavySteps
@@ -11,6 +10,7 @@ pub mod KidsByNode
 pub mod Left
 pub mod NumbersOf
 pub mod OneMore
+pub mod OneOf
 pub mod SizeSteps
 pub mod Spots
 pub mod Steps

@@ -1,6 +1,7 @@
 -- Lists that have the numbers of a tree's members.
 use Rattle.std.proofs.Common.{◌≡◌, ℕ, ◌+◌, Bool, true, false, refl, sym, ap, subst, ◌∙◌, List, [], ◌∷◌, ◌++◌, map, IsPermutation}
 use Rattle.std.specs.Prelude.{Option, Some, None}
+use Rattle.std.proofs.lemmas.List.{map-append}
 use Rattle.std.proofs.lemmas.List.Sorted.{IsPermutation-map, IsPermutation-refl, IsPermutation-sym, IsPermutation-trans}
 use Rattle.route_tree.specs.Rose.{Forest, no_trees, twig, count, Tree}
 use Rattle.route_tree.specs.Growth.{subtrees, first_or}
@@ -16,20 +17,16 @@ use Rattle.heavy_labels.specs.declared.numbered_member.NumberedMember.{NumberedM
 abbrev node_in : Line → ℕ
 node_in l = (head_brief l).0
 
-map_append : {X : Type 0} (f : X → ℕ) (xs ys : List X) → map f (xs ++ ys) ≡ map f xs ++ map f ys
-map_append f [] ys = refl
-map_append f (x ∷ xs) ys = ap (λ z. f x ∷ z) (map_append f xs ys)
-
 lines_nodes : (fo : Forest) (h : Bool) (f : ℕ) (ls : List ℕ) (above : Line) (p : Option ℕ) → map node_in (lines fo h f ls above) ≡ map (λ (a : Member). a.node) (listed p fo)
 lines_nodes no_trees h f ls above p = refl
 lines_nodes (twig n u d below beside) h f ls above p =
     let ls1 = lights_at h ls d in
     let here = place n u d below f ls1 above ∷ above in
     ap (λ z. n ∷ z)
-    (map_append node_in (lines below true (f + 1) ls1 here) (lines beside false (f + 1 + count below) ls above)
+    (map-append node_in (lines below true (f + 1) ls1 here) (lines beside false (f + 1 + count below) ls above)
     ∙ ap (λ z. z ++ map node_in (lines beside false (f + 1 + count below) ls above)) (lines_nodes below true (f + 1) ls1 here (Some n))
     ∙ ap (λ z. map (λ (a : Member). a.node) (listed (Some n) below) ++ z) (lines_nodes beside false (f + 1 + count below) ls above p)
-    ∙ sym (map_append (λ (a : Member). a.node) (listed (Some n) below) (listed p beside)))
+    ∙ sym (map-append (λ (a : Member). a.node) (listed (Some n) below) (listed p beside)))
 
 tree_nodes : (t : Tree) → map node_in (tree_lines t) ≡ map (λ (a : Member). a.node) (members_of t)
 tree_nodes t = ap (λ z. t.node ∷ z) (lines_nodes t.below true 1 [] (place t.node None None t.below 0 [] [] ∷ []) (Some t.node))

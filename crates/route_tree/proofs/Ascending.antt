@@ -1,13 +1,12 @@
 -- A list of trees that was sorted by node is the one that the definition gives.
-use Rattle.std.proofs.Common.{◌≡◌, ℕ, suc, ◌<◌, ◌≤◌, Bool, true, false, List, [], ◌∷◌, length, get_or, refl, sym, ap, ap₂, ◌∙◌, ◌⊎◌, inl, inr, arith, map, IsPermutation}
+use Rattle.std.proofs.Common.{◌≡◌, ℕ, zero, suc, ◌<◌, ◌≤◌, false, List, [], ◌∷◌, length, get_or, refl, sym, ap, ap₂, subst, ◌∙◌, ◌⊎◌, inl, inr, arith, map, IsPermutation}
 use Rattle.std.specs.Prelude.{nat_eq, nat_lt}
-use Rattle.std.specs.List.{AllByRecursion}
+use Rattle.std.specs.List.{All, AllByRecursion}
 use Rattle.std.specs.List.Sorted.{IsNonDecreasingBy}
-use Rattle.std.proofs.lemmas.List.Elements.{recursion_from_All, All-from_recursion}
 use Rattle.std.proofs.lemmas.List.Sorted.{All-permutation, IsPermutation-map, IsPermutation-sym}
 use Rattle.std.proofs.lemmas.Map.Keys.{IsDistinct-IsPermutation, IsDistinct-head, IsDistinct-tail}
 use Rattle.std.proofs.lemmas.Bool.Decides.{nat_tests}
-use Rattle.std.proofs.lemmas.Bool.{le-ltb}
+use Rattle.std.proofs.lemmas.Bool.{cond_both, eqb-false, ltb-true, ltb-false}
 use Rattle.route_tree.specs.Rose.{Tree}
 use Rattle.route_tree.specs.Order.{insert, ascending, HaveEachNodeOnce}
 
@@ -36,10 +35,7 @@ Differ (t ∷ ts) = Fresh t.node ts × Differ ts
 
 fresh_of : (n : ℕ) (ts : List Tree) → AllByRecursion (λ y. nat_eq n y ≡ false) (map (λ t. t.node) ts) → Fresh n ts
 fresh_of n [] h = tt
-fresh_of n (t ∷ ts) h = (differ n t.node h.0, fresh_of n ts h.1)
-  where
-    differ : (a b : ℕ) → nat_eq a b ≡ false → a ≡ b → ⊥
-    differ a b e f = grind (arith, nat_tests)
+fresh_of n (t ∷ ts) h = (eqb-false n t.node h.0, fresh_of n ts h.1)
 
 pub differ_of : (ts : List Tree) → HaveEachNodeOnce ts → Differ ts
 differ_of [] h = tt
@@ -70,34 +66,15 @@ rising_same (x ∷ xs) (y ∷ ys) r s f g =
     tail t z zs l e (inl q) = absurd (let w = ap (λ v. v.node) q in omega (arith, l, e, w))
     tail t z zs l e (inr h) = h
 
-further : (t u : Tree) (us : List Tree) → u.node ≤ t.node → insert t (u ∷ us) ≡ u ∷ insert t us
-further t u us h = rw (le-ltb t.node u.node h)
-
 has_insert : (t : Tree) (us : List Tree) (s : Tree) → (s ≡ t) ⊎ Has s us → Has s (insert t us)
 has_insert t [] s h = h
-has_insert t (u ∷ us) s h = go (nat_lt t.node u.node) refl h (has_insert t us s)
-  where
-    go : (b : Bool) → nat_lt t.node u.node ≡ b → (s ≡ t) ⊎ ((s ≡ u) ⊎ Has s us) → ((s ≡ t) ⊎ Has s us → Has s (insert t us)) → Has s (insert t (u ∷ us))
-    go true e h k = rw e h
-    go false e (inl h) k = rw e (inr (k (inl h)))
-    go false e (inr (inl h)) k = rw e (inl h)
-    go false e (inr (inr h)) k = rw e (inr (k (inr h)))
+has_insert t (u ∷ us) s h = cond_both (nat_lt t.node u.node) (t ∷ u ∷ us) (u ∷ insert t us) (Has s) (λ _. h)
+    (λ _. elim h [ inl e ↦ inr (has_insert t us s (inl e)) | inr (inl e) ↦ inl e | inr (inr k) ↦ inr (has_insert t us s (inr k)) ])
 
 insert_has : (t : Tree) (us : List Tree) (s : Tree) → Has s (insert t us) → (s ≡ t) ⊎ Has s us
 insert_has t [] s h = h
-insert_has t (u ∷ us) s h = go (nat_lt t.node u.node) refl h (insert_has t us s)
-  where
-    later : (s ≡ t) ⊎ Has s us → (s ≡ t) ⊎ ((s ≡ u) ⊎ Has s us)
-    later (inl e) = inl e
-    later (inr h) = inr (inr h)
-
-    cases : (s ≡ u) ⊎ Has s (insert t us) → (Has s (insert t us) → (s ≡ t) ⊎ Has s us) → (s ≡ t) ⊎ ((s ≡ u) ⊎ Has s us)
-    cases (inl e) k = inr (inl e)
-    cases (inr h) k = later (k h)
-
-    go : (b : Bool) → nat_lt t.node u.node ≡ b → Has s (insert t (u ∷ us)) → (Has s (insert t us) → (s ≡ t) ⊎ Has s us) → (s ≡ t) ⊎ ((s ≡ u) ⊎ Has s us)
-    go true e h k = rw e at h
-    go false e h k = cases (rw e at h) k
+insert_has t (u ∷ us) s h = cond_both (nat_lt t.node u.node) (t ∷ u ∷ us) (u ∷ insert t us) (λ z. Has s z → (s ≡ t) ⊎ Has s (u ∷ us)) (λ _ k. k)
+    (λ _ k. elim k [ inl e ↦ inr (inl e) | inr i ↦ elim (insert_has t us s i) [ inl e ↦ inl e | inr j ↦ inr (inr j) ] ]) h
 
 pub has_ascending : (ts : List Tree) (s : Tree) → Has s ts → Has s (ascending ts)
 has_ascending [] s h = h
@@ -106,15 +83,15 @@ has_ascending (t ∷ ts) s (inr h) = has_insert t (ascending ts) s (inr (has_asc
 
 pub ascending_has : (ts : List Tree) (s : Tree) → Has s (ascending ts) → Has s ts
 ascending_has [] s h = h
-ascending_has (t ∷ ts) s h = go (insert_has t (ascending ts) s h) (ascending_has ts s)
-  where
-    go : (s ≡ t) ⊎ Has s (ascending ts) → (Has s (ascending ts) → Has s ts) → (s ≡ t) ⊎ Has s ts
-    go (inl e) k = inl e
-    go (inr h) k = inr (k h)
+ascending_has (t ∷ ts) s h = elim (insert_has t (ascending ts) s h) [ inl e ↦ inl e | inr k ↦ inr (ascending_has ts s k) ]
 
-above_from : (n : ℕ) (ts : List Tree) → ((s : Tree) → Has s ts → n < s.node) → Above n ts
-above_from n [] h = tt
-above_from n (t ∷ ts) h = (h t (inl refl), above_from n ts (λ s k. h s (inr k)))
+above_less : (n k : ℕ) (ts : List Tree) → n ≤ k → Above k ts → Above n ts
+above_less n k [] l a = tt
+above_less n k (t ∷ ts) l a = (omega (arith, l, a.0), above_less n k ts l a.1)
+
+above_insert : (n : ℕ) (t : Tree) (us : List Tree) → n < t.node → Above n us → Above n (insert t us)
+above_insert n t [] l a = (l, tt)
+above_insert n t (u ∷ us) l a = cond_both (nat_lt t.node u.node) (t ∷ u ∷ us) (u ∷ insert t us) (Above n) (λ _. (l, a)) (λ _. (a.0, above_insert n t us l a.1))
 
 fresh_has : (n : ℕ) (ts : List Tree) (s : Tree) → Fresh n ts → Has s ts → n ≡ s.node → ⊥
 fresh_has n [] s f h = absurd h
@@ -127,25 +104,9 @@ fresh_from n (t ∷ ts) h = (h t (inl refl), fresh_from n ts (λ s k. h s (inr k
 
 rising_insert : (t : Tree) (us : List Tree) → Rising us → Fresh t.node us → Rising (insert t us)
 rising_insert t [] r f = (tt, tt)
-rising_insert t (u ∷ us) r f = go (nat_lt t.node u.node) refl (rising_insert t us r.1 f.1)
-  where
-    lower : nat_lt t.node u.node ≡ true → t.node < u.node
-    lower e = grind (arith, nat_tests)
-
-    higher : nat_lt t.node u.node ≡ false → u.node < t.node
-    higher e = let w = f.0 in grind (arith, nat_tests)
-
-    all_lower : t.node < u.node → (s : Tree) → (s ≡ u) ⊎ Has s us → t.node < s.node
-    all_lower l s (inl e) = rw e l
-    all_lower l s (inr h) = let a = above_has u.node us s r.0 h in omega (arith, l, a)
-
-    all_higher : u.node < t.node → (s : Tree) → (s ≡ t) ⊎ Has s us → u.node < s.node
-    all_higher l s (inl e) = rw e l
-    all_higher l s (inr h) = above_has u.node us s r.0 h
-
-    go : (b : Bool) → nat_lt t.node u.node ≡ b → Rising (insert t us) → Rising (insert t (u ∷ us))
-    go true e k = rw e (above_from t.node (u ∷ us) (all_lower (lower e)), r)
-    go false e k = rw e (above_from u.node (insert t us) (λ s h. all_higher (higher e) s (insert_has t us s h)), k)
+rising_insert t (u ∷ us) r f = cond_both (nat_lt t.node u.node) (t ∷ u ∷ us) (u ∷ insert t us) Rising
+    (λ e. (let l = ltb-true t.node u.node e in ((l, above_less t.node u.node us (omega (arith, l)) r.0), r)))
+    (λ e. (let l = ltb-false t.node u.node e in let w = f.0 in (above_insert u.node t us (omega (arith, l, w)) r.0, rising_insert t us r.1 f.1)))
 
 pub rising_ascending : (ts : List Tree) → Differ ts → Rising (ascending ts)
 rising_ascending [] d = tt
@@ -163,25 +124,20 @@ rising_sorted (t ∷ ts) n d = (
   where
     first : (us : List Tree) → ((j : ℕ) (e : Tree) → j < length us → t.node ≤ (get_or us j e).node) → Fresh t.node us → Above t.node us
     first [] h f = tt
-    first (u ∷ us) h f = (let l = h 0 u (omega arith) in strict t.node u.node l f.0, first us (λ j e l. h (suc j) e (omega arith)) f.1)
-      where
-        strict : (a b : ℕ) → a ≤ b → (a ≡ b → ⊥) → a < b
-        strict a b l f = omega (arith, f)
+    first (u ∷ us) h f = (let l = h 0 u (omega arith) in omega (arith, l, f.0), first us (λ j e l. h (suc j) e (omega arith)) f.1)
 
-has_all : (ts : List Tree) → AllByRecursion (λ t. Has t ts) ts
-has_all ts = within ts (λ t h. h)
-  where
-    within : (us : List Tree) → ((t : Tree) → Has t us → Has t ts) → AllByRecursion (λ t. Has t ts) us
-    within [] f = tt
-    within (u ∷ us) f = (f u (inl refl), within us (λ t h. f t (inr h)))
+has_at : (ts : List Tree) (k : ℕ) (d : Tree) → k < length ts → Has (get_or ts k d) ts
+has_at [] k d l = absurd (omega arith)
+has_at (t ∷ ts) zero d l = inl refl
+has_at (t ∷ ts) (suc k) d l = inr (has_at ts k d (omega arith))
 
-has_from : (ts us : List Tree) → AllByRecursion (λ t. Has t us) ts → (t : Tree) → Has t ts → Has t us
-has_from [] us a t h = absurd h
-has_from (v ∷ ts) us a t (inl e) = rw e a.0
-has_from (v ∷ ts) us a t (inr h) = has_from ts us a.1 t h
+has_from : (P : Tree → Type 0) (us : List Tree) → All P us → (t : Tree) → Has t us → P t
+has_from P [] a t h = absurd h
+has_from P (u ∷ us) a t (inl e) = subst P (sym e) (a 0 u (omega arith))
+has_from P (u ∷ us) a t (inr h) = has_from P us (λ k d l. a (suc k) d (omega arith)) t h
 
 pub has_permutation : (ts us : List Tree) → IsPermutation ts us → (t : Tree) → Has t us → Has t ts
-has_permutation ts us p = has_from us ts (recursion_from_All _ us (All-permutation (λ t. Has t ts) ts us p (All-from_recursion _ ts (has_all ts))))
+has_permutation ts us p = has_from (λ t. Has t ts) us (All-permutation (λ t. Has t ts) ts us p (has_at ts))
 
 flips : (x y : ℕ) → nat_eq x y ≡ nat_eq y x
 flips x y = grind (arith, nat_tests)

@@ -1,7 +1,7 @@
 -- No more trees wait than there are members.
-use Rattle.std.proofs.Common.{◌≡◌, ◌≢◌, ℕ, suc, zero, ◌+◌, ◌<◌, ◌≤◌, Bool, true, false, List, [], ◌∷◌, ◌++◌, length, take, drop, get_or, refl, sym, ap, ◌∙◌, arith, length-drop, reverse}
+use Rattle.std.proofs.Common.{◌≡◌, ◌≢◌, ℕ, suc, zero, ◌+◌, ◌<◌, ◌≤◌, true, false, inl, inr, List, [], ◌∷◌, ◌++◌, length, take, drop, get_or, refl, sym, ap, ◌∙◌, arith, length-drop, reverse}
 use Rattle.std.specs.Prelude.{Option, Some, None, nat_lt}
-use Rattle.std.proofs.lemmas.Bool.{eqb-true}
+use Rattle.std.proofs.lemmas.Bool.{cases_Bool, cond_both, eqb-true, false≢true}
 use Rattle.std.proofs.lemmas.Grind.{reverse_onto}
 use Rattle.std.proofs.lemmas.List.{get_or-drop}
 use Rattle.route_tree.specs.Rose.{Tree, tree_size, of_list, count}
@@ -10,7 +10,7 @@ use Rattle.route_tree.specs.Front.{heavy_to_front, heavy_at}
 use Rattle.route_tree.specs.Growth.{is_parent, trees_on, subtrees, waiting, IsEachOnce}
 use Rattle.route_tree.specs.Slots.{hanging}
 use Rattle.route_tree.specs.declared.member.Member.{Member}
-use Rattle.route_tree.proofs.Waiting.{closed, parent_no, some_same, once_drop}
+use Rattle.route_tree.proofs.Waiting.{closed, parent_no, some_same, once_drop, once_tail}
 
 -- nothing waits for more room than there are members
 pub count_append : (xs ys : List Tree) → count (of_list (xs ++ ys)) ≡ count (of_list xs) + count (of_list ys)
@@ -30,11 +30,7 @@ count_front ts =
 
 count_insert : (t : Tree) (us : List Tree) → count (of_list (insert t us)) ≡ tree_size t + count (of_list us)
 count_insert t [] = refl
-count_insert t (u ∷ us) = go (nat_lt t.node u.node) refl (count_insert t us)
-  where
-    go : (b : Bool) → nat_lt t.node u.node ≡ b → count (of_list (insert t us)) ≡ tree_size t + count (of_list us) → count (of_list (insert t (u ∷ us))) ≡ tree_size t + count (of_list (u ∷ us))
-    go true e h = rw e refl
-    go false e h = rw e (omega (arith, h))
+count_insert t (u ∷ us) = cond_both (nat_lt t.node u.node) (t ∷ u ∷ us) (u ∷ insert t us) (λ z. count (of_list z) ≡ tree_size t + count (of_list (u ∷ us))) (λ _. refl) (λ _. omega (arith, count_insert t us))
 
 pub count_ascending : (ts : List Tree) → count (of_list (ascending ts)) ≡ count (of_list ts)
 count_ascending [] = refl
@@ -66,7 +62,7 @@ load_no : (n : ℕ) (m : Member) (ms : List Member) → is_parent n m.parent ≡
 load_no n m ms e = rw e refl
 
 pub same_parent : (n k : ℕ) (o : Option ℕ) → is_parent n o ≡ true → n ≢ k → is_parent k o ≡ false
-same_parent n k None e h = absurd (let b : false ≡ true = e in cc)
+same_parent n k None e h = absurd (false≢true e)
 same_parent n k (Some p) e h = parent_no k (Some p) (λ s. h (sym (eqb-true p n e) ∙ some_same s))
 
 loads_none : (n : ℕ) (ks : List ℕ) (m : Member) (ms : List Member) → is_parent n m.parent ≡ true → Fresh n ks → loads ks (m ∷ ms) ≡ loads ks ms
@@ -75,11 +71,10 @@ loads_none n (k ∷ ks) m ms e f = omega (arith, load_no k m ms (same_parent n k
 
 loads_step : (ns : List ℕ) (m : Member) (ms : List Member) → Distinct ns → loads ns (m ∷ ms) ≤ loads ns ms + tree_size (closed m ms)
 loads_step [] m ms d = omega arith
-loads_step (n ∷ ns) m ms d = go (is_parent n m.parent) refl (loads_step ns m ms d.1)
-  where
-    go : (b : Bool) → is_parent n m.parent ≡ b → loads ns (m ∷ ms) ≤ loads ns ms + tree_size (closed m ms) → loads (n ∷ ns) (m ∷ ms) ≤ loads (n ∷ ns) ms + tree_size (closed m ms)
-    go true e h = omega (arith, load_yes n m ms e, loads_none n ns m ms e d.0)
-    go false e h = omega (arith, load_no n m ms e, h)
+loads_step (n ∷ ns) m ms d = elim (cases_Bool (is_parent n m.parent)) [
+  | inl e ↦ omega (arith, load_yes n m ms e, loads_none n ns m ms e d.0)
+  | inr e ↦ omega (arith, load_no n m ms e, loads_step ns m ms d.1)
+]
 
 closed_size : (m : Member) (ms : List Member) → tree_size (closed m ms) ≡ 1 + load m.node ms
 closed_size m ms = ap (λ n. 1 + n) (count_front (waiting m.node ms) ∙ count_ascending (trees_on m.node ms (subtrees ms)))
@@ -99,15 +94,9 @@ apart_from [] ns f o = tt
 apart_from (m ∷ ms) ns f o = (
   f 0 m (omega arith),
   apart_from ms (m.node ∷ ns)
-      (λ k d l. ((λ e. zero_not k (o (suc k) 0 d m (omega arith) (omega arith) e)), f (suc k) d (omega arith)))
-      (λ i j d e a b s. suc_same i j (o (suc i) (suc j) d e (omega arith) (omega arith) s)),
+      (λ k d l. ((λ e. (let z = o (suc k) 0 d m (omega arith) (omega arith) e in absurd (omega (arith, z))), f (suc k) d (omega arith))))
+      (once_tail m ms o),
 )
-  where
-    zero_not : (k : ℕ) → suc k ≡ 0 → ⊥
-    zero_not k e = omega arith
-
-    suc_same : (i j : ℕ) → suc i ≡ suc j → i ≡ j
-    suc_same i j e = omega arith
 
 count_reverse : (ts : List Tree) → count (of_list (reverse ts)) ≡ count (of_list ts)
 count_reverse [] = refl

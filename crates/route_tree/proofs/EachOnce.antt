@@ -1,7 +1,8 @@
 -- Each member stands in the tree once, below its parent and with its ports.
-use Rattle.std.proofs.Common.{◌≡◌, ◌≢◌, ℕ, suc, zero, ◌+◌, ◌<◌, ◌⊎◌, inl, inr, Bool, true, false, List, [], ◌∷◌, ◌++◌, length, take, drop, get_or, refl, sym, ap, subst, ◌∙◌, arith, IsPermutation, append_assoc, length-append}
+use Rattle.std.proofs.Common.{◌≡◌, ◌≢◌, ℕ, suc, zero, ◌+◌, ◌<◌, ◌⊎◌, inl, inr, false, List, [], ◌∷◌, ◌++◌, length, take, drop, get_or, refl, sym, ap, subst, ◌∙◌, arith, IsPermutation, append_assoc, length-append}
 use Rattle.std.specs.Prelude.{Option, Some, nat_lt}
-use Rattle.std.proofs.lemmas.List.{append-nil}
+use Rattle.std.proofs.lemmas.Bool.{cond_both}
+use Rattle.std.proofs.lemmas.List.{append-nil, take-append-drop}
 use Rattle.std.proofs.lemmas.List.Sorted.{IsPermutation-refl, IsPermutation-trans, IsPermutation-cons, IsPermutation-append_left, IsPermutation-append_right, IsPermutation-append_comm, length_permutation}
 use Rattle.route_tree.specs.Rose.{Forest, no_trees, twig, Tree, tree_size, of_list, count}
 use Rattle.route_tree.specs.Order.{insert, ascending}
@@ -10,7 +11,6 @@ use Rattle.route_tree.specs.Growth.{is_parent, trees_on, subtrees, waiting, firs
 use Rattle.route_tree.specs.Members.{AreMembers, HasParentBefore, listed, members_of}
 use Rattle.route_tree.specs.declared.member.Member.{Member}
 use Rattle.route_tree.proofs.Waiting.{closed, parent_yes, parent_no, some_same, lacks_head, once_tail}
-use Rattle.route_tree.proofs.Orders.{take_and_drop}
 use Rattle.route_tree.proofs.Counting.{Fresh, Distinct, Apart, apart_from, same_parent}
 
 -- what trees on p list, whatever their order
@@ -25,18 +25,15 @@ lines p t = record { node = t.node; parent = p; up = t.up; down = t.down } ∷ l
 
 listed_insert : (p : Option ℕ) (t : Tree) (us : List Tree) → IsPermutation (lines p t ++ listed p (of_list us)) (listed p (of_list (insert t us)))
 listed_insert p t [] = IsPermutation-refl (lines p t ++ [])
-listed_insert p t (u ∷ us) = go (nat_lt t.node u.node) refl (listed_insert p t us)
+listed_insert p t (u ∷ us) =
+    cond_both (nat_lt t.node u.node) (t ∷ u ∷ us) (u ∷ insert t us) (λ z. IsPermutation (lines p t ++ listed p (of_list (u ∷ us))) (listed p (of_list z)))
+    (λ _. IsPermutation-refl (lines p t ++ listed p (of_list (u ∷ us)))) (λ _. IsPermutation-trans _ _ _ swapped (IsPermutation-append_right (lines p u) _ _ (listed_insert p t us)))
   where
     swapped : IsPermutation (lines p t ++ (lines p u ++ listed p (of_list us))) (lines p u ++ (lines p t ++ listed p (of_list us)))
     swapped =
         let comm = IsPermutation-append_left (listed p (of_list us)) _ _ (IsPermutation-append_comm (lines p t) (lines p u)) in
         subst (λ z. IsPermutation z (lines p u ++ (lines p t ++ listed p (of_list us)))) (append_assoc (lines p t) (lines p u) (listed p (of_list us)))
         (subst (λ z. IsPermutation ((lines p t ++ lines p u) ++ listed p (of_list us)) z) (append_assoc (lines p u) (lines p t) (listed p (of_list us))) comm)
-
-    go : (b : Bool) → nat_lt t.node u.node ≡ b → IsPermutation (lines p t ++ listed p (of_list us)) (listed p (of_list (insert t us)))
-        → IsPermutation (lines p t ++ listed p (of_list (u ∷ us))) (listed p (of_list (insert t (u ∷ us))))
-    go true e h = rw e (IsPermutation-refl (lines p t ++ listed p (of_list (u ∷ us))))
-    go false e h = rw e (IsPermutation-trans _ _ _ swapped (IsPermutation-append_right (lines p u) _ _ h))
 
 listed_ascending : (p : Option ℕ) (ts : List Tree) → IsPermutation (listed p (of_list ts)) (listed p (of_list (ascending ts)))
 listed_ascending p [] = IsPermutation-refl []
@@ -53,8 +50,8 @@ listed_front p ts =
     let part = take (i + 1) ts in
     let turned = listed_turned p (take i part) (drop i part) in
     let same : listed p (of_list ts) ≡ listed p (of_list (take i part ++ drop i part)) ++ listed p (of_list (drop (i + 1) ts)) =
-    ap (λ z. listed p (of_list z)) (sym (take_and_drop (i + 1) ts)) ∙ listed_append p part (drop (i + 1) ts)
-    ∙ ap (λ z. listed p (of_list z) ++ listed p (of_list (drop (i + 1) ts))) (sym (take_and_drop i part)) in
+    ap (λ z. listed p (of_list z)) (sym (take-append-drop (i + 1) ts)) ∙ listed_append p part (drop (i + 1) ts)
+    ∙ ap (λ z. listed p (of_list z) ++ listed p (of_list (drop (i + 1) ts))) (sym (take-append-drop i part)) in
     subst (λ z. IsPermutation z (listed p (of_list (heavy_to_front ts)))) (sym same)
     (subst (λ z. IsPermutation (listed p (of_list (take i part ++ drop i part)) ++ listed p (of_list (drop (i + 1) ts))) z) (sym (listed_append p (drop i part ++ take i part) (drop (i + 1) ts)))
     (IsPermutation-append_left (listed p (of_list (drop (i + 1) ts))) _ _ turned))
@@ -125,39 +122,28 @@ all_gathered (m ∷ ms) ns d a c =
     let closing = IsPermutation-append_left (gathered ns ms) _ _ (listed_below m.node ms) in
     IsPermutation-trans _ _ _ (IsPermutation-cons m _ _ (IsPermutation-trans _ _ _ rest closing)) (gathered_more ns m ms d c.0)
 
+-- a parent before a member of m ∷ ms is m, or it stands before it among ms
+among_rest : (m : Member) (ms : List Member) (ns : List ℕ) (k : ℕ) (a : Member) → HasParentBefore (m ∷ ms) (suc k) a → IsAmong a.parent (m.node ∷ ns) ⊎ HasParentBefore ms k a
+among_rest m ms ns k a (zero, p) = inl (inl (p.1 m))
+among_rest m ms ns k a (suc j, p) = inr (j, (omega (arith, p.0), p.1))
+
 covered : (ms : List Member) (ns : List ℕ) → ((k : ℕ) (d : Member) → k < length ms → IsAmong (get_or ms k d).parent ns ⊎ HasParentBefore ms k (get_or ms k d)) → Covered ns ms
 covered [] ns h = tt
-covered (m ∷ ms) ns h = (first (h 0 m (omega arith)), covered ms (m.node ∷ ns) (λ k d l. later k d (h (suc k) d (omega arith))))
-  where
-    first : IsAmong m.parent ns ⊎ HasParentBefore (m ∷ ms) 0 m → IsAmong m.parent ns
-    first (inl a) = a
-    first (inr p) = absurd (let w = p.1.0 in omega (arith, w))
-
-    before : (k : ℕ) (d : Member) (j : ℕ) → j < suc k → ((e : Member) → (get_or ms k d).parent ≡ Some (get_or (m ∷ ms) j e).node) → IsAmong (get_or ms k d).parent (m.node ∷ ns) ⊎ HasParentBefore ms k (get_or ms k d)
-    before k d zero l e = inl (inl (e m))
-    before k d (suc j) l e = inr (j, (omega (arith, l), e))
-
-    later : (k : ℕ) (d : Member) → IsAmong (get_or ms k d).parent ns ⊎ HasParentBefore (m ∷ ms) (suc k) (get_or ms k d) → IsAmong (get_or ms k d).parent (m.node ∷ ns) ⊎ HasParentBefore ms k (get_or ms k d)
-    later k d (inl a) = inl (inr a)
-    later k d (inr p) = before k d p.0 p.1.0 p.1.1
+covered (m ∷ ms) ns h = (
+  elim (h 0 m (omega arith)) [ inl a ↦ a | inr p ↦ absurd (let w = p.1.0 in omega (arith, w)) ],
+  covered ms (m.node ∷ ns) (λ k d l. elim (h (suc k) d (omega arith)) [ inl a ↦ inl (inr a) | inr p ↦ among_rest m ms ns k (get_or ms k d) p ]),
+)
 
 -- each member stands in its tree once
 pub each_once : (ms : List Member) (d : Tree) → AreMembers ms → IsPermutation ms (members_of (first_or d (subtrees ms)))
 each_once [] d a = absurd (let l = a.some in omega arith)
 each_once (m ∷ ms) d a =
     let apart = apart_from ms (m.node ∷ []) (λ k e l. ((λ q. lacks_head m ms a.once k e l (sym q)), tt)) (once_tail m ms a.once) in
-    let parents = covered ms (m.node ∷ []) (λ k e l. among k e (a.parents (suc k) e (omega arith) (omega arith))) in
+    let parents = covered ms (m.node ∷ []) (λ k e l. among_rest m ms [] k (get_or ms k e) (a.parents (suc k) e (omega arith) (omega arith))) in
     let all = all_gathered ms (m.node ∷ []) (tt, tt) apart parents in
     let below = IsPermutation-trans _ _ _ (subst (λ z. IsPermutation ms z) (append-nil (on m.node ms)) all) (listed_below m.node ms) in
     subst (λ z. IsPermutation (m ∷ ms) (record { node = m.node; parent = z; up = m.up; down = m.down } ∷ listed (Some m.node) (closed m ms).below)) (a.root m).parent
     (IsPermutation-cons m _ _ below)
-  where
-    before : (k : ℕ) (e : Member) (j : ℕ) → j < suc k → ((f : Member) → (get_or ms k e).parent ≡ Some (get_or (m ∷ ms) j f).node) → IsAmong (get_or ms k e).parent (m.node ∷ []) ⊎ HasParentBefore ms k (get_or ms k e)
-    before k e zero l g = inl (inl (g m))
-    before k e (suc j) l g = inr (j, (omega (arith, l), g))
-
-    among : (k : ℕ) (e : Member) → HasParentBefore (m ∷ ms) (suc k) (get_or ms k e) → IsAmong (get_or ms k e).parent (m.node ∷ []) ⊎ HasParentBefore ms k (get_or ms k e)
-    among k e p = before k e p.0 p.1.0 p.1.1
 
 length_listed : (p : Option ℕ) (f : Forest) → length (listed p f) ≡ count f
 length_listed p no_trees = refl

@@ -1,10 +1,13 @@
 -- The heavy child, by its properties.
-use Rattle.std.proofs.Common.{◌≡◌, ℕ, suc, zero, ◌+◌, ◌<◌, ◌≤◌, cond, List, [], ◌∷◌, ◌++◌, length, take, drop, get_or, ◌-◌, length-take, refl, sym, ap, ◌∙◌, ◌⊎◌, inl, inr, arith}
+use Rattle.std.proofs.Common.{◌≡◌, ℕ, suc, zero, ◌+◌, ◌<◌, ◌≤◌, cond, List, [], ◌∷◌, ◌++◌, length, take, drop, get_or, ◌-◌, length-take, sym, ap, ◌∙◌, arith, below_more}
 use Rattle.std.proofs.lemmas.Bool.Decides.{nat_tests}
+use Rattle.std.proofs.lemmas.List.{get_or_default}
+use Rattle.std.proofs.lemmas.List.Elements.{All-from_recursion}
 use Rattle.std.specs.Prelude.{nat_le}
 use Rattle.route_tree.specs.Rose.{Tree, tree_size, of_list, count}
 use Rattle.route_tree.specs.Order.{heaviest}
 use Rattle.route_tree.specs.Front.{IsHeavy, heavy_at, heavy_to_front, fronted_at}
+use Rattle.route_tree.proofs.Heaviest.{heaviest_all}
 
 -- the same among the first n trees, the greatest size being s
 pub record IsHeavySoFar (ts : List Tree) (n i s : ℕ) : Type 0 where
@@ -27,11 +30,6 @@ heaviest_bound (t ∷ ts) s h =
     let b = heaviest_bound ts s (λ k d lt. h (suc k) d (omega arith)) in
     omega (arith, a, b)
 
-heaviest_at : (ts : List Tree) (i : ℕ) (d : Tree) → i < length ts → tree_size (get_or ts i d) ≤ heaviest ts
-heaviest_at [] i d h = absurd (omega arith)
-heaviest_at (t ∷ ts) zero d h = omega arith
-heaviest_at (t ∷ ts) (suc i) d h = let r = heaviest_at ts i d (omega arith) in omega (arith, r)
-
 chosen_first : (a b c : ℕ) → a ≤ b → cond (nat_le a b) 0 c ≡ 0
 chosen_first a b c h = grind (arith, nat_tests)
 
@@ -43,18 +41,13 @@ heavy_unique [] i h = absurd (let l = h.there in omega arith)
 heavy_unique (t ∷ ts) zero h = chosen_first (heaviest ts) (tree_size t) (suc (heavy_at ts)) (heaviest_bound ts (tree_size t) (λ k d lt. h.most (suc k) d (omega arith)))
 heavy_unique (t ∷ ts) (suc i) h =
     let l : i < length ts = (let q = h.there in omega arith) in
-    let big = heaviest_at ts i t l in
+    let big = All-from_recursion (λ u. tree_size u ≤ heaviest ts) ts (heaviest_all ts) i t l in
     let first = h.first 0 t (omega arith) in
     chosen_later (heaviest ts) (tree_size t) (suc (heavy_at ts)) (omega (arith, big, first))
     ∙ ap suc (heavy_unique ts i (record { there = l; most = λ k d lt. h.most (suc k) d (omega arith); first = λ k d lt. h.first (suc k) d (omega arith) }))
 
-same_get : (ts : List Tree) (i : ℕ) (d e : Tree) → i < length ts → get_or ts i d ≡ get_or ts i e
-same_get [] i d e h = absurd (omega arith)
-same_get (t ∷ ts) zero d e h = refl
-same_get (t ∷ ts) (suc i) d e h = same_get ts i d e (omega arith)
-
 pub size_is : (ts : List Tree) (i s : ℕ) (t : Tree) → i < length ts → t ≡ get_or ts i t → s ≡ tree_size t → (d : Tree) → s ≡ tree_size (get_or ts i d)
-size_is ts i s t h e f d = f ∙ ap tree_size (e ∙ same_get ts i t d h)
+size_is ts i s t h e f d = f ∙ ap tree_size (e ∙ get_or_default ts i t d h)
 
 pub next_yes : (ts : List Tree) (n i s s2 : ℕ) → IsHeavySoFar ts n i s → n < length ts → ((d : Tree) → s2 ≡ tree_size (get_or ts n d)) → s < s2 → IsHeavySoFar ts (n + 1) n s2
 next_yes ts n i s s2 h lt is more = record {
@@ -62,16 +55,9 @@ next_yes ts n i s s2 h lt is more = record {
   upto = omega arith;
   there = omega arith;
   is = is;
-  most = λ k d l. upto_here k d (le_or_eq k n l);
+  most = λ k d. below_more (λ k. tree_size (get_or ts k d) ≤ s2) n (λ k l. (let b = h.most k d l in omega (arith, b))) (let b = is d in omega (arith, b)) k;
   first = λ k d l. (let b = h.most k d l in omega (arith, b));
 }
-  where
-    le_or_eq : (k n : ℕ) → k < n + 1 → (k < n) ⊎ (k ≡ n)
-    le_or_eq k n l = grind arith
-
-    upto_here : (k : ℕ) (d : Tree) → (k < n) ⊎ (k ≡ n) → tree_size (get_or ts k d) ≤ s2
-    upto_here k d (inl l) = let b = h.most k d l in omega (arith, b)
-    upto_here k d (inr e) = rw e (let b = is d in omega (arith, b))
 
 pub next_no : (ts : List Tree) (n i s s2 : ℕ) → IsHeavySoFar ts n i s → n < length ts → ((d : Tree) → s2 ≡ tree_size (get_or ts n d)) → s2 ≤ s → IsHeavySoFar ts (n + 1) i s
 next_no ts n i s s2 h lt is more = record {
@@ -79,16 +65,9 @@ next_no ts n i s s2 h lt is more = record {
   upto = omega arith;
   there = (let b = h.there in omega arith);
   is = h.is;
-  most = λ k d l. upto_here k d (le_or_eq k n l);
+  most = λ k d. below_more (λ k. tree_size (get_or ts k d) ≤ s) n (λ k l. h.most k d l) (let b = is d in omega (arith, b)) k;
   first = h.first;
 }
-  where
-    le_or_eq : (k n : ℕ) → k < n + 1 → (k < n) ⊎ (k ≡ n)
-    le_or_eq k n l = grind arith
-
-    upto_here : (k : ℕ) (d : Tree) → (k < n) ⊎ (k ≡ n) → tree_size (get_or ts k d) ≤ s
-    upto_here k d (inl l) = h.most k d l
-    upto_here k d (inr e) = rw e (let b = is d in omega (arith, b))
 
 part_length : (h : ℕ) (ts : List Tree) → h < length ts → length (take (h + 1) ts) - 1 ≡ h
 part_length h ts l = omega (arith, length-take (h + 1) ts)

@@ -1,8 +1,8 @@
 -- The heaviest of a list of trees, and where it stands.
-use Rattle.std.proofs.Common.{◌≡◌, ℕ, suc, zero, ◌+◌, ◌<◌, ◌≤◌, Bool, true, false, List, [], ◌∷◌, length, take, drop, get_or, refl, ◌∙◌, arith, add-one}
+use Rattle.std.proofs.Common.{◌≡◌, ℕ, suc, zero, ◌+◌, ◌<◌, ◌≤◌, List, [], ◌∷◌, length, take, drop, get_or, refl, arith, add-one}
 use Rattle.std.specs.Prelude.{nat_le}
 use Rattle.std.specs.List.{AllByRecursion}
-use Rattle.std.proofs.lemmas.Bool.Decides.{nat_tests}
+use Rattle.std.proofs.lemmas.Bool.{cond_both, leb-true, leb-false}
 use Rattle.route_tree.specs.Rose.{Tree, tree_size, of_list}
 use Rattle.route_tree.specs.Order.{heaviest}
 use Rattle.route_tree.specs.Front.{heavy_at}
@@ -21,35 +21,15 @@ widest_bound s [] h = omega arith
 widest_bound s (t ∷ ts) h = let a = h.0 in let b = widest_bound s ts h.1 in omega (arith, a, b)
 
 pub heavy_here : (t : Tree) (ts : List Tree) → heavy_at (t ∷ ts) < length (t ∷ ts)
-heavy_here t [] = go (nat_le 0 (tree_size t)) refl
-  where
-    go : (b : Bool) → nat_le 0 (tree_size t) ≡ b → heavy_at (t ∷ []) < 1
-    go true e = rw e (omega arith)
-    go false e = absurd (grind (arith, nat_tests))
-heavy_here t (u ∷ us) = go (nat_le (heaviest (u ∷ us)) (tree_size t)) refl (heavy_here u us)
-  where
-    go : (b : Bool) → nat_le (heaviest (u ∷ us)) (tree_size t) ≡ b → heavy_at (u ∷ us) < length (u ∷ us) → heavy_at (t ∷ u ∷ us) < length (t ∷ u ∷ us)
-    go true e h = rw e (omega arith)
-    go false e h = rw e (omega (arith, h))
+heavy_here t [] = cond_both (nat_le 0 (tree_size t)) 0 (suc 0) (λ z. z < 1) (λ _. omega arith) (λ e. absurd (let l = leb-false 0 (tree_size t) e in omega (arith, l)))
+heavy_here t (u ∷ us) = cond_both (nat_le (heaviest (u ∷ us)) (tree_size t)) 0 (suc (heavy_at (u ∷ us))) (λ z. z < length (t ∷ u ∷ us)) (λ _. omega arith) (λ _. omega (arith, heavy_here u us))
 
 -- the heavy one's size is the greatest
 pub heavy_size : (t : Tree) (ts : List Tree) (d : Tree) → tree_size (get_or (t ∷ ts) (heavy_at (t ∷ ts)) d) ≡ heaviest (t ∷ ts)
-heavy_size t [] d = go (nat_le 0 (tree_size t)) refl
-  where
-    go : (b : Bool) → nat_le 0 (tree_size t) ≡ b → tree_size (get_or (t ∷ []) (heavy_at (t ∷ [])) d) ≡ heaviest (t ∷ [])
-    go true e = rw e (omega arith)
-    go false e = absurd (grind (arith, nat_tests))
-heavy_size t (u ∷ us) d = go (nat_le (heaviest (u ∷ us)) (tree_size t)) refl (heavy_size u us d)
-  where
-    at_least : nat_le (heaviest (u ∷ us)) (tree_size t) ≡ true → heaviest (u ∷ us) ≤ tree_size t
-    at_least e = grind (arith, nat_tests)
-
-    below : nat_le (heaviest (u ∷ us)) (tree_size t) ≡ false → tree_size t < heaviest (u ∷ us)
-    below e = grind (arith, nat_tests)
-
-    go : (b : Bool) → nat_le (heaviest (u ∷ us)) (tree_size t) ≡ b → tree_size (get_or (u ∷ us) (heavy_at (u ∷ us)) d) ≡ heaviest (u ∷ us) → tree_size (get_or (t ∷ u ∷ us) (heavy_at (t ∷ u ∷ us)) d) ≡ heaviest (t ∷ u ∷ us)
-    go true e h = rw e (let l = at_least e in omega (arith, l))
-    go false e h = rw e (let l = below e in h ∙ (omega (arith, l)))
+heavy_size t [] d = cond_both (nat_le 0 (tree_size t)) 0 (suc 0) (λ z. tree_size (get_or (t ∷ []) z d) ≡ heaviest (t ∷ [])) (λ _. omega arith) (λ e. absurd (let l = leb-false 0 (tree_size t) e in omega (arith, l)))
+heavy_size t (u ∷ us) d = cond_both (nat_le (heaviest (u ∷ us)) (tree_size t)) 0 (suc (heavy_at (u ∷ us))) (λ z. tree_size (get_or (t ∷ u ∷ us) z d) ≡ heaviest (t ∷ u ∷ us))
+    (λ e. (let l = leb-true (heaviest (u ∷ us)) (tree_size t) e in omega (arith, l)))
+    (λ e. (let l = leb-false (heaviest (u ∷ us)) (tree_size t) e in let h = heavy_size u us d in omega (arith, l, h)))
 
 -- the part up to i begins, from i on, with what stands at i
 pub from_there : (ts : List Tree) (i : ℕ) (d : Tree) → i < length ts → drop i (take (suc i) ts) ≡ get_or ts i d ∷ []

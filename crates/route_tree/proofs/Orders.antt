@@ -1,9 +1,10 @@
 -- The order of children: the heavy one first, and the others by ascending node.
-use Rattle.std.proofs.Common.{◌≡◌, ℕ, suc, zero, ◌+◌, ◌<◌, ◌≤◌, Bool, true, false, List, [], ◌∷◌, ◌++◌, length, take, drop, get_or, refl, sym, ap, subst, ◌∙◌, arith, add-one, IsPermutation}
+use Rattle.std.proofs.Common.{◌≡◌, ℕ, suc, zero, ◌+◌, ◌<◌, ◌≤◌, List, [], ◌∷◌, ◌++◌, length, take, drop, get_or, sym, ap, subst, ◌∙◌, arith, add-one, IsPermutation}
 use Rattle.std.specs.Prelude.{nat_lt, nat_le}
 use Rattle.std.specs.List.{AllByRecursion}
 use Rattle.std.specs.List.Sorted.{IsNonDecreasingBy}
-use Rattle.std.proofs.lemmas.Bool.Decides.{nat_tests}
+use Rattle.std.proofs.lemmas.Bool.{cond_both, ltb-true, ltb-false, leb-false}
+use Rattle.std.proofs.lemmas.List.{take-append-drop, take-take}
 use Rattle.std.proofs.lemmas.List.Elements.{All-from_recursion}
 use Rattle.std.proofs.lemmas.List.Sorted.{IsPermutation-append_left, IsPermutation-append_comm}
 use Rattle.route_tree.specs.Rose.{Tree, tree_size}
@@ -37,25 +38,13 @@ at_least n m (t ∷ ts) l h = (let a = h.0 in omega (arith, l, a), at_least n m 
 
 at_least_insert : (n : ℕ) (t : Tree) (us : List Tree) → n ≤ t.node → AllByRecursion (λ u. n ≤ u.node) us → AllByRecursion (λ u. n ≤ u.node) (insert t us)
 at_least_insert n t [] l h = (l, tt)
-at_least_insert n t (u ∷ us) l h = go (nat_lt t.node u.node) refl (at_least_insert n t us l h.1)
-  where
-    go : (b : Bool) → nat_lt t.node u.node ≡ b → AllByRecursion (λ v. n ≤ v.node) (insert t us) → AllByRecursion (λ v. n ≤ v.node) (insert t (u ∷ us))
-    go true e r = rw e (l, h)
-    go false e r = rw e (h.0, r)
+at_least_insert n t (u ∷ us) l h = cond_both (nat_lt t.node u.node) (t ∷ u ∷ us) (u ∷ insert t us) (AllByRecursion (λ v. n ≤ v.node)) (λ _. (l, h)) (λ _. (h.0, at_least_insert n t us l h.1))
 
 climbs_insert : (t : Tree) (us : List Tree) → Climbs us → Climbs (insert t us)
 climbs_insert t [] c = (tt, tt)
-climbs_insert t (u ∷ us) c = go (nat_lt t.node u.node) refl (climbs_insert t us c.1)
-  where
-    lower : nat_lt t.node u.node ≡ true → t.node ≤ u.node
-    lower e = grind (arith, nat_tests)
-
-    higher : nat_lt t.node u.node ≡ false → u.node ≤ t.node
-    higher e = grind (arith, nat_tests)
-
-    go : (b : Bool) → nat_lt t.node u.node ≡ b → Climbs (insert t us) → Climbs (insert t (u ∷ us))
-    go true e r = rw e ((lower e, at_least t.node u.node us (lower e) c.0), c)
-    go false e r = rw e (at_least_insert u.node t us (higher e) c.0, r)
+climbs_insert t (u ∷ us) c = cond_both (nat_lt t.node u.node) (t ∷ u ∷ us) (u ∷ insert t us) Climbs
+    (λ e. (let l = ltb-true t.node u.node e in ((omega (arith, l), at_least t.node u.node us (omega (arith, l)) c.0), c)))
+    (λ e. (at_least_insert u.node t us (ltb-false t.node u.node e) c.0, climbs_insert t us c.1))
 
 pub climbs_ascending : (ts : List Tree) → Climbs (ascending ts)
 climbs_ascending [] = tt
@@ -78,35 +67,21 @@ climbs_without (suc i) (u ∷ us) c = (each_without (λ v. u.node ≤ v.node) i 
 abbrev Yields : ℕ → ℕ → Tree → Type 0
 Yields s n u = (tree_size u ≤ s) × (tree_size u ≡ s → n ≤ u.node)
 
-lighter : (s n : ℕ) (u : Tree) → tree_size u < s → Yields s n u
-lighter s n u l = (omega (arith, l), λ e. absurd (omega (arith, l, e)))
-
 no_smaller : (s n : ℕ) (us : List Tree) → AllByRecursion (λ u. tree_size u ≤ s) us → AllByRecursion (λ u. n ≤ u.node) us → AllByRecursion (Yields s n) us
 no_smaller s n [] h k = tt
 no_smaller s n (u ∷ us) h k = ((h.0, λ _. k.0), no_smaller s n us h.1 k.1)
 
 yielding : (ts : List Tree) (d : Tree) → Climbs ts → AllByRecursion (Yields (heaviest ts) (get_or ts (heavy_at ts) d).node) (take (heavy_at ts) ts ++ drop (suc (heavy_at ts)) ts)
 yielding [] d c = tt
-yielding (t ∷ ts) d c = go (nat_le (heaviest ts) (tree_size t)) refl (yielding ts d c.1)
-  where
-    more : nat_le (heaviest ts) (tree_size t) ≡ false → tree_size t < heaviest ts
-    more e = grind (arith, nat_tests)
-
-    go : (b : Bool) → nat_le (heaviest ts) (tree_size t) ≡ b → AllByRecursion (Yields (heaviest ts) (get_or ts (heavy_at ts) d).node) (take (heavy_at ts) ts ++ drop (suc (heavy_at ts)) ts)
-        → AllByRecursion (Yields (heaviest (t ∷ ts)) (get_or (t ∷ ts) (heavy_at (t ∷ ts)) d).node) (take (heavy_at (t ∷ ts)) (t ∷ ts) ++ drop (suc (heavy_at (t ∷ ts))) (t ∷ ts))
-    go true e r = rw e (no_smaller (heaviest (t ∷ ts)) t.node ts (heaviest_all (t ∷ ts)).1 c.0)
-    go false e r =
-        let l = more e in
-        let same : heaviest ts ≡ heaviest (t ∷ ts) = omega (arith, l) in
-        rw e (
-          lighter (heaviest (t ∷ ts)) (get_or ts (heavy_at ts) d).node t (omega (arith, l)),
-          subst (λ s. AllByRecursion (Yields s (get_or ts (heavy_at ts) d).node) (take (heavy_at ts) ts ++ drop (suc (heavy_at ts)) ts)) same r,
-        )
-
-take_less : (i : ℕ) (us : List Tree) → take i (take (suc i) us) ≡ take i us
-take_less zero us = refl
-take_less (suc i) [] = refl
-take_less (suc i) (u ∷ us) = ap (λ z. u ∷ z) (take_less i us)
+yielding (t ∷ ts) d c =
+    cond_both (nat_le (heaviest ts) (tree_size t)) 0 (suc (heavy_at ts)) (λ i. AllByRecursion (Yields (heaviest (t ∷ ts)) (get_or (t ∷ ts) i d).node) (take i (t ∷ ts) ++ drop (suc i) (t ∷ ts)))
+    (λ _. no_smaller (heaviest (t ∷ ts)) t.node ts (heaviest_all (t ∷ ts)).1 c.0)
+    (λ e.
+    (let l = leb-false (heaviest ts) (tree_size t) e in
+    let same : heaviest ts ≡ heaviest (t ∷ ts) = omega (arith, l) in (
+      (omega (arith, l), λ q. absurd (omega (arith, l, q))),
+      subst (λ s. AllByRecursion (Yields s (get_or ts (heavy_at ts) d).node) (take (heavy_at ts) ts ++ drop (suc (heavy_at ts)) ts)) same (yielding ts d c.1),
+    )))
 
 -- the heavy tree, and the others in their order
 pub front_is : (us : List Tree) (d : Tree) → heavy_at us < length us → heavy_to_front us ≡ get_or us (heavy_at us) d ∷ (take (heavy_at us) us ++ drop (suc (heavy_at us)) us)
@@ -114,7 +89,7 @@ front_is us d h =
     let i = heavy_at us in
     let turned : (drop i (take (suc i) us) ++ take i (take (suc i) us)) ++ drop (suc i) us ≡ get_or us i d ∷ (take i us ++ drop (suc i) us) =
     ap (λ z. (z ++ take i (take (suc i) us)) ++ drop (suc i) us) (from_there us i d h)
-    ∙ ap (λ z. get_or us i d ∷ (z ++ drop (suc i) us)) (take_less i us) in
+    ∙ ap (λ z. get_or us i d ∷ (z ++ drop (suc i) us)) (take-take i (suc i) us (omega arith)) in
     rw add-one turned
 
 heavy_before : (g : Tree) (s : ℕ) (us : List Tree) → tree_size g ≡ s → AllByRecursion (Yields s g.node) us → AllByRecursion (IsHeavyBefore g) us
@@ -132,15 +107,10 @@ in_order_front (t ∷ ts) c =
       climbs_to (take i us ++ drop (suc i) us) (climbs_without i us c),
     )
 
-pub take_and_drop : (i : ℕ) (ts : List Tree) → take i ts ++ drop i ts ≡ ts
-take_and_drop zero ts = refl
-take_and_drop (suc i) [] = refl
-take_and_drop (suc i) (t ∷ ts) = ap (λ z. t ∷ z) (take_and_drop i ts)
-
 pub permutes_front : (ts : List Tree) → IsPermutation ts (heavy_to_front ts)
 permutes_front ts =
     let i = heavy_at ts in
     let part = take (i + 1) ts in
-    let same : (take i part ++ drop i part) ++ drop (i + 1) ts ≡ ts = ap (λ z. z ++ drop (i + 1) ts) (take_and_drop i part) ∙ take_and_drop (i + 1) ts in
+    let same : (take i part ++ drop i part) ++ drop (i + 1) ts ≡ ts = ap (λ z. z ++ drop (i + 1) ts) (take-append-drop i part) ∙ take-append-drop (i + 1) ts in
     subst (λ z. IsPermutation z (heavy_to_front ts)) same
     (IsPermutation-append_left (drop (i + 1) ts) (take i part ++ drop i part) (drop i part ++ take i part) (IsPermutation-append_comm (take i part) (drop i part)))

@@ -1,17 +1,19 @@
 -- The shape of the trees that members give.
-use Rattle.std.proofs.Common.{◌≡◌, ℕ, suc, zero, ◌+◌, ◌<◌, ◌≤◌, Bool, true, false, List, [], ◌∷◌, ◌++◌, length, take, drop, get_or, refl, sym, subst, arith}
+use Rattle.std.proofs.Common.{◌≡◌, ℕ, suc, zero, ◌+◌, ◌<◌, ◌≤◌, List, [], ◌∷◌, ◌++◌, length, take, drop, get_or, sym, subst, arith}
 use Rattle.std.specs.Prelude.{Some, nat_lt}
 use Rattle.std.specs.List.{AllByRecursion}
+use Rattle.std.proofs.lemmas.Bool.{cond_both}
 use Rattle.route_tree.specs.Rose.{Tree, tree_size, of_list, to_list, to_list-of_list}
 use Rattle.route_tree.specs.Order.{insert, ascending, heaviest}
 use Rattle.route_tree.specs.Front.{heavy_to_front, heavy_at, IsInOrder}
 use Rattle.route_tree.specs.Growth.{is_parent, trees_on, subtrees, waiting, first_or}
 use Rattle.route_tree.specs.Members.{HasBoth, AreMembers}
-use Rattle.route_tree.specs.Shape.{HasPorts, IsHeavyHead, IsHeavyFirst, IsOrdered, IsRouteTree}
+use Rattle.route_tree.specs.Shape.{HasPorts, widest, IsHeavyHead, IsHeavyFirst, IsOrdered, IsRouteTree}
 use Rattle.route_tree.specs.declared.member.Member.{Member}
 use Rattle.route_tree.proofs.EachOnce.{as_many}
-use Rattle.route_tree.proofs.Orders.{in_order_front, climbs_ascending}
-use Rattle.route_tree.proofs.Heaviest.{heaviest_all, widest_bound, heavy_here, heavy_size, from_part}
+use Rattle.route_tree.proofs.Orders.{front_is, in_order_front, climbs_ascending}
+use Rattle.route_tree.proofs.Waiting.{closed}
+use Rattle.route_tree.proofs.Heaviest.{heaviest_all, widest_bound, heavy_here, heavy_size}
 
 -- What holds of each tree holds of each after the trees changed places.
 module _ (P : Tree → Type 0) where
@@ -39,11 +41,7 @@ module _ (P : Tree → Type 0) where
 
   each_insert : (t : Tree) (us : List Tree) → P t → AllByRecursion P us → AllByRecursion P (insert t us)
   each_insert t [] h k = (h, k)
-  each_insert t (u ∷ us) h k = go (nat_lt t.node u.node) refl (each_insert t us h k.1)
-    where
-      go : (b : Bool) → nat_lt t.node u.node ≡ b → AllByRecursion P (insert t us) → AllByRecursion P (insert t (u ∷ us))
-      go true e r = rw e (h, k)
-      go false e r = rw e (k.0, r)
+  each_insert t (u ∷ us) h k = cond_both (nat_lt t.node u.node) (t ∷ u ∷ us) (u ∷ insert t us) (AllByRecursion P) (λ _. (h, k)) (λ _. (k.0, each_insert t us h k.1))
 
   each_ascending : (ts : List Tree) → AllByRecursion P ts → AllByRecursion P (ascending ts)
   each_ascending [] h = tt
@@ -52,14 +50,15 @@ module _ (P : Tree → Type 0) where
   each_on : (n : ℕ) (ms : List Member) (ts : List Tree) → AllByRecursion P ts → AllByRecursion P (trees_on n ms ts)
   each_on n [] ts h = tt
   each_on n (m ∷ ms) [] h = tt
-  each_on n (m ∷ ms) (t ∷ ts) h = go (is_parent n m.parent) refl (each_on n ms ts h.1)
-    where
-      go : (b : Bool) → is_parent n m.parent ≡ b → AllByRecursion P (trees_on n ms ts) → AllByRecursion P (trees_on n (m ∷ ms) (t ∷ ts))
-      go true e r = rw e (h.0, r)
-      go false e r = rw e r
+  each_on n (m ∷ ms) (t ∷ ts) h = cond_both (is_parent n m.parent) (t ∷ trees_on n ms ts) (trees_on n ms ts) (AllByRecursion P) (λ _. (h.0, each_on n ms ts h.1)) (λ _. each_on n ms ts h.1)
 
   each_below : (n : ℕ) (ms : List Member) → AllByRecursion P (subtrees ms) → AllByRecursion P (heavy_to_front (waiting n ms))
   each_below n ms h = each_front (waiting n ms) (each_ascending (trees_on n ms (subtrees ms)) (each_on n ms (subtrees ms) h))
+
+  -- and of each member's tree, where it follows from what holds below the member
+  each_grown : ((m : Member) (ms : List Member) → AllByRecursion P (heavy_to_front (waiting m.node ms)) → P (closed m ms)) → (ms : List Member) → AllByRecursion P (subtrees ms)
+  each_grown own [] = tt
+  each_grown own (m ∷ ms) = (let r = each_grown own ms in (own m ms (each_below m.node ms r), r))
 
 abbrev IsPorted : Tree → Type 0
 IsPorted t = ((a : ℕ) × (t.up ≡ Some a)) × (((b : ℕ) × (t.down ≡ Some b)) × HasPorts t.below)
@@ -81,17 +80,14 @@ ports_below n ms h = ports_of (heavy_to_front (waiting n ms)) (each_below IsPort
 pub front_heavy : (ts : List Tree) → IsHeavyHead (of_list (heavy_to_front ts))
 front_heavy [] = tt
 front_heavy (t ∷ ts) =
-    let i = heavy_at (t ∷ ts) in
-    let e = from_part (t ∷ ts) i t (heavy_here t ts) in
-    let all = each_front (λ u. tree_size u ≤ heaviest (t ∷ ts)) (t ∷ ts) (heaviest_all (t ∷ ts)) in
-    headed (get_or (t ∷ ts) i t) (drop i (take (i + 1) (t ∷ ts))) (take i (take (i + 1) (t ∷ ts))) (drop (i + 1) (t ∷ ts)) (heaviest (t ∷ ts)) e (heavy_size t ts t) all
-  where
-    headed : (g : Tree) (xs ys zs : List Tree) (s : ℕ) → xs ≡ g ∷ [] → tree_size g ≡ s → AllByRecursion (λ u. tree_size u ≤ s) ((xs ++ ys) ++ zs) → IsHeavyHead (of_list ((xs ++ ys) ++ zs))
-    headed g xs ys zs s e q all =
-        rw e (let b = widest_bound s (ys ++ zs) (tail (subst (λ v. AllByRecursion (λ u. tree_size u ≤ s) ((v ++ ys) ++ zs)) e all)) in omega (arith, b, q))
-      where
-        tail : AllByRecursion (λ u. tree_size u ≤ s) (((g ∷ []) ++ ys) ++ zs) → AllByRecursion (λ u. tree_size u ≤ s) (ys ++ zs)
-        tail h = h.1
+    let us = t ∷ ts in
+    let front = front_is us t (heavy_here t ts) in
+    let rest = take (heavy_at us) us ++ drop (suc (heavy_at us)) us in
+    let all = subst (AllByRecursion (λ u. tree_size u ≤ heaviest us)) front (each_front (λ u. tree_size u ≤ heaviest us) us (heaviest_all us)) in
+    let most = widest_bound (heaviest us) rest all.1 in
+    let size = heavy_size t ts t in
+    let head : widest (of_list rest) ≤ tree_size (get_or us (heavy_at us) t) = omega (arith, most, size) in
+    subst (λ z. IsHeavyHead (of_list z)) (sym front) head
 
 abbrev IsHeavy : Tree → Type 0
 IsHeavy t = IsHeavyHead t.below × IsHeavyFirst t.below
@@ -101,10 +97,7 @@ heavy_of [] h = tt
 heavy_of (t ∷ ts) h = (h.0.0, (h.0.1, heavy_of ts h.1))
 
 heavy_each : (ms : List Member) → AllByRecursion IsHeavy (subtrees ms)
-heavy_each [] = tt
-heavy_each (m ∷ ms) =
-    let r = heavy_each ms in
-    ((front_heavy (waiting m.node ms), heavy_of (heavy_to_front (waiting m.node ms)) (each_below IsHeavy m.node ms r)), r)
+heavy_each = each_grown IsHeavy (λ m ms r. (front_heavy (waiting m.node ms), heavy_of (heavy_to_front (waiting m.node ms)) r))
 
 pub heavy_below : (n : ℕ) (ms : List Member) → IsHeavyFirst (of_list (heavy_to_front (waiting n ms)))
 heavy_below n ms = heavy_of (heavy_to_front (waiting n ms)) (each_below IsHeavy n ms (heavy_each ms))
@@ -120,10 +113,7 @@ order_of : (n : ℕ) (ms : List Member) → IsInOrder (to_list (of_list (heavy_t
 order_of n ms = subst IsInOrder (sym (to_list-of_list (heavy_to_front (waiting n ms)))) (in_order_front (waiting n ms) (climbs_ascending (trees_on n ms (subtrees ms))))
 
 ordered_each : (ms : List Member) → AllByRecursion HasOrder (subtrees ms)
-ordered_each [] = tt
-ordered_each (m ∷ ms) =
-    let r = ordered_each ms in
-    ((order_of m.node ms, ordered_of (heavy_to_front (waiting m.node ms)) (each_below HasOrder m.node ms r)), r)
+ordered_each = each_grown HasOrder (λ m ms r. (order_of m.node ms, ordered_of (heavy_to_front (waiting m.node ms)) r))
 
 pub both_from : (ms : List Member) → ((k : ℕ) (d : Member) → k < length ms → HasBoth (get_or ms k d)) → AllByRecursion HasBoth ms
 both_from [] h = tt

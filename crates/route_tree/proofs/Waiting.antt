@@ -1,10 +1,10 @@
 -- What waits for the members, from one turn to the next.
-use Rattle.std.proofs.Common.{◌≡◌, ◌≢◌, ℕ, suc, zero, ◌+◌, ◌<◌, Bool, true, false, List, [], ◌∷◌, ◌++◌, length, take, drop, get_or, refl, sym, ap, subst, ◌∙◌, arith, add-one, drop-cons, length-append, length-take, length-drop, set, length-set, map}
-use Rattle.std.specs.Prelude.{Option, Some, None, slice_get, ◌==◌, nat_eq}
+use Rattle.std.proofs.Common.{◌≡◌, ◌≢◌, ℕ, suc, zero, ◌+◌, ◌<◌, true, false, inl, inr, List, [], ◌∷◌, ◌++◌, length, take, drop, get_or, refl, sym, ap, subst, ◌∙◌, arith, length-append, length-take, length-drop, set, length-set, map}
+use Rattle.std.specs.Prelude.{Option, Some, None, slice_get, nat_eq}
 use Rattle.std.specs.List.{IsDistinct, AllByRecursion}
-use Rattle.std.proofs.lemmas.Bool.{eq-eqb, eqb-true}
-use Rattle.std.proofs.lemmas.Bool.Decides.{nat_tests}
+use Rattle.std.proofs.lemmas.Bool.{cases_Bool, cases_eq, cond_both, eq-eqb, ne_eqb}
 use Rattle.std.proofs.lemmas.Grind.{reverse_onto}
+use Rattle.std.proofs.lemmas.List.{drop_more}
 use Rattle.std.proofs.lemmas.List.Sorted.{IsPermutation-reverse}
 use Rattle.std.proofs.lemmas.Option.{slice_get-get_or}
 use Rattle.std.specs.declared.vec.Vec.{Vec}
@@ -25,19 +25,13 @@ parent_yes n o e = rw e (eq-eqb n n refl)
 
 pub parent_no : (n : ℕ) (o : Option ℕ) → o ≢ Some n → is_parent n o ≡ false
 parent_no n None h = refl
-parent_no n (Some p) h = differ p n (λ e. h (ap (λ z. Some z) e))
-  where
-    differ : (p n : ℕ) → p ≢ n → (p == n) ≡ false
-    differ p n h = grind (arith, nat_tests)
+parent_no n (Some p) h = ne_eqb p n (λ e. h (ap (λ z. Some z) e))
 
 hanging_yes : (n : ℕ) (m : Member) (rest : List Member) → is_parent n m.parent ≡ true → hanging n (m ∷ rest) ≡ hanging n rest ++ closed m rest ∷ []
 hanging_yes n m rest e = rw e (reverse_onto (trees_on n rest (subtrees rest)) (closed m rest) [])
 
 hanging_no : (n : ℕ) (m : Member) (rest : List Member) → is_parent n m.parent ≡ false → hanging n (m ∷ rest) ≡ hanging n rest
 hanging_no n m rest e = rw e refl
-
-drop_at : (ms : List Member) (at : ℕ) (d : Member) → at < length ms → drop at ms ≡ get_or ms at d ∷ drop (at + 1) ms
-drop_at ms at d h = rw (add-one) (drop-cons ms at d h)
 
 pub some_same : {X : Type 0} {x y : X} → Some x ≡ Some y → x ≡ y
 some_same e = cc
@@ -60,7 +54,7 @@ each_rest : {A : Type 0} (ms : List Member) (at : ℕ) (slots : List (Vec Tree A
     → (k : ℕ) (s : Vec Tree A) (d : Member) → m.parent ≢ Some (get_or ms k d).node → slice_get slots k ≡ Some s → s.items ≡ hanging (get_or ms k d).node (drop at ms)
 each_rest ms at slots m lt w e k s d other g =
     w.each k s d g ∙ sym (hanging_no (get_or ms k d).node m (drop (at + 1) ms) (parent_no _ _ other))
-    ∙ ap (hanging (get_or ms k d).node) (ap (λ z. z ∷ drop (at + 1) ms) e ∙ sym (drop_at ms at m lt))
+    ∙ ap (hanging (get_or ms k d).node) (ap (λ z. z ∷ drop (at + 1) ms) e ∙ sym (drop_more ms at m lt))
 
 pub removed_length : {X : Type 0} (xs : List X) (at : ℕ) → length xs ≡ at + 1 → length (take at xs ++ drop (suc at) xs) ≡ at
 removed_length xs at h = omega (arith, length-append (take at xs) (drop (suc at) xs), length-take at xs, length-drop (suc at) xs)
@@ -70,26 +64,20 @@ pub waits_less : {A : Type 0} (ms : List Member) (at p : ℕ) (slots mid new : L
     → StandsAt ms at m.parent p → mid ≡ take at slots ++ drop (suc at) slots → t ≡ closed m (drop (at + 1) ms) → IsHung mid p t new → Waits ms at new
 waits_less ms at p slots mid new m t lt once w e place f te h = record {
   count = h.count ∙ ap length f ∙ removed_length slots at w.count;
-  each = λ k s d g. by_place k s d g (k == p) refl;
-}
-  where
-    by_place : (k : ℕ) (s : _) (d : Member) → slice_get new k ≡ Some s → (b : Bool) → (k == p) ≡ b → s.items ≡ hanging (get_or ms k d).node (drop at ms)
-    by_place k s d g true q =
-        let kp : k ≡ p = eqb-true k p q in
+  each = λ k s d g. elim (cases_eq k p) [
+    | inl kp ↦ (
         let o = h.here s (subst (λ z. slice_get new z ≡ Some s) kp g) in
         let r = get_removed slots at p o.0 w.count (subst (λ z. slice_get z p ≡ Some o.0) f o.1.0) in
         let old = w.each p o.0 d r.0 in
         let step = hanging_yes (get_or ms p d).node m (drop (at + 1) ms) (parent_yes _ _ (place.is d)) in
         subst (λ z. s.items ≡ hanging (get_or ms z d).node (drop at ms)) (sym kp)
         (o.1.1 ∙ ap (λ z. o.0.items ++ z ∷ []) te ∙ ap (λ z. z ++ closed m (drop (at + 1) ms) ∷ []) old ∙ sym step
-        ∙ ap (hanging (get_or ms p d).node) (ap (λ z. z ∷ drop (at + 1) ms) e ∙ sym (drop_at ms at m lt)))
-    by_place k s d g false q =
-        let ne : k ≢ p = (λ z. not_both (eq-eqb k p z) q) in
+        ∙ ap (hanging (get_or ms p d).node) (ap (λ z. z ∷ drop (at + 1) ms) e ∙ sym (drop_more ms at m lt))))
+    | inr ne ↦ (
         let r = get_removed slots at k s w.count (subst (λ z. slice_get z k ≡ Some s) f (h.other k s ne g)) in
-        each_rest ms at slots m lt w e k s d (λ z. ne (once k p d d (omega (arith, r.1)) (omega (arith, place.before)) (some_same (sym z ∙ place.is d)))) r.0
-      where
-        not_both : {b : Bool} → b ≡ true → b ≡ false → ⊥
-        not_both u v = cc
+        each_rest ms at slots m lt w e k s d (λ z. ne (once k p d d (omega (arith, r.1)) (omega (arith, place.before)) (some_same (sym z ∙ place.is d)))) r.0)
+  ];
+}
 
 -- one slot is left, the root's
 pub once_drop : (n : ℕ) (ms : List Member) → IsEachOnce ms → IsEachOnce (drop n ms)
@@ -105,30 +93,20 @@ abbrev pub Lacks : ℕ → List Member → Type 0
 Lacks x ms = (k : ℕ) (d : Member) → k < length ms → x ≢ (get_or ms k d).node
 
 pub lacks_head : (m : Member) (ms : List Member) → IsEachOnce (m ∷ ms) → Lacks m.node ms
-lacks_head m ms o k d l e = zero_not (o 0 (suc k) m d (omega arith) (omega arith) e)
-  where
-    zero_not : 0 ≡ suc k → ⊥
-    zero_not e = omega arith
-
-differ_eq : (x y : ℕ) → x ≢ y → nat_eq x y ≡ false
-differ_eq x y h = grind (arith, nat_tests)
+lacks_head m ms o k d l e = (let z = o 0 (suc k) m d (omega arith) (omega arith) e in omega (arith, z))
 
 nodes_lack : (x n : ℕ) (ms : List Member) → Lacks x ms → AllByRecursion (λ y. nat_eq x y ≡ false) (map (λ t. t.node) (trees_on n ms (subtrees ms)))
 nodes_lack x n [] l = tt
-nodes_lack x n (m ∷ ms) l = go (is_parent n m.parent) refl (nodes_lack x n ms (λ k d h. l (suc k) d (omega arith)))
-  where
-    go : (b : Bool) → is_parent n m.parent ≡ b → AllByRecursion (λ y. nat_eq x y ≡ false) (map (λ t. t.node) (trees_on n ms (subtrees ms))) → AllByRecursion (λ y. nat_eq x y ≡ false) (map (λ t. t.node) (trees_on n (m ∷ ms) (subtrees (m ∷ ms))))
-    go true e h = rw e (differ_eq x m.node (l 0 m (omega arith)), h)
-    go false e h = rw e h
+nodes_lack x n (m ∷ ms) l = (let rest = nodes_lack x n ms (λ k d h. l (suc k) d (omega arith)) in
+    cond_both (is_parent n m.parent) (closed m ms ∷ trees_on n ms (subtrees ms)) (trees_on n ms (subtrees ms)) (λ z. AllByRecursion (λ y. nat_eq x y ≡ false) (map (λ (t : Tree). t.node) z)) (λ _. (ne_eqb x m.node (l 0 m (omega arith)), rest)) (λ _. rest))
 
 trees_once : (n : ℕ) (ms : List Member) → IsEachOnce ms → HaveEachNodeOnce (trees_on n ms (subtrees ms))
 unfolding IsDistinct
 trees_once n [] o = tt
-trees_once n (m ∷ ms) o = go (is_parent n m.parent) refl (trees_once n ms (once_tail m ms o))
-  where
-    go : (b : Bool) → is_parent n m.parent ≡ b → HaveEachNodeOnce (trees_on n ms (subtrees ms)) → HaveEachNodeOnce (trees_on n (m ∷ ms) (subtrees (m ∷ ms)))
-    go true e h = rw e (nodes_lack m.node n ms (lacks_head m ms o), h)
-    go false e h = rw e h
+trees_once n (m ∷ ms) o = elim (cases_Bool (is_parent n m.parent)) [
+  | inl e ↦ rw e (nodes_lack m.node n ms (lacks_head m ms o), trees_once n ms (once_tail m ms o))
+  | inr e ↦ rw e (trees_once n ms (once_tail m ms o))
+]
 
 pub hanging_once : (n : ℕ) (ms : List Member) → IsEachOnce ms → HaveEachNodeOnce (hanging n ms)
 hanging_once n ms o = once_permutation (trees_on n ms (subtrees ms)) (hanging n ms) (IsPermutation-reverse (trees_on n ms (subtrees ms))) (trees_once n ms o)
@@ -136,16 +114,6 @@ hanging_once n ms o = once_permutation (trees_on n ms (subtrees ms)) (hanging n 
 -- sorted, what hangs on a node is what waits for it
 pub hanging_sorted : (n : ℕ) (ms : List Member) → IsEachOnce ms → ascending (hanging n ms) ≡ waiting n ms
 hanging_sorted n ms o = same_ascending (trees_on n ms (subtrees ms)) (hanging n ms) (trees_once n ms o) (IsPermutation-reverse (trees_on n ms (subtrees ms)))
-
-pub default_is : (ms : List Member) (at : ℕ) (d : Member) → at < length ms → get_or ms at d ≡ get_or ms at (get_or ms at d)
-default_is [] at d h = absurd (omega arith)
-default_is (m ∷ ms) zero d h = refl
-default_is (m ∷ ms) (suc at) d h = default_is ms at d (omega arith)
-
-pub same_default : (ms : List Member) (at : ℕ) (d e : Member) → at < length ms → get_or ms at d ≡ get_or ms at e
-same_default [] at d e h = absurd (omega arith)
-same_default (m ∷ ms) zero d e h = refl
-same_default (m ∷ ms) (suc at) d e h = same_default ms at d e (omega arith)
 
 pub closed_is : {A : Type 0} (ms : List Member) (at : ℕ) (slots : List (Vec Tree A)) (v : Vec Tree A) (m : Member) (t : Tree) → IsEachOnce ms → Waits ms (at + 1) slots → v ≡ get_or slots at v → m ≡ get_or ms at m
     → t ≡ tree m.node m.up m.down (of_list (heavy_to_front (ascending v.items))) → t ≡ closed m (drop (at + 1) ms)

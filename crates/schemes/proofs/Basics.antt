@@ -5,5 +5,4 @@ pub mod Places
 pub mod Searches
 pub mod PortLemmas
 pub mod Walks
-pub mod KeyColumns
 pub mod PackedEntries

@@ -7,6 +7,7 @@ use Rattle.graph_edits.specs.Edges.{Network, IsSound, over_port, weight_in, neig
 use Rattle.graph_edits.specs.Laws.{All-neighbours_of}
 use Rattle.schemes.specs.Ports.{neighbours, port_to, index_of}
 use Rattle.schemes.proofs.Basics.Lists.{Within, index_found}
+use Rattle.schemes.proofs.Basics.Options.{not_none}
 use Rattle.schemes.proofs.Serving.StepsAsMoves.{index_get}
 use Rattle.schemes.proofs.Serving.Moves.{get_map}
 
@@ -20,15 +21,9 @@ none_past m s x le = go (neighbours_of m x) (All-neighbours_of m x)
 pub no_port : (m : Network) → IsSound m → (x y : ℕ) → m.nodes ≤ x → None ≡ port_to m x y
 no_port m s x y le = sym (ap (index_of y) (none_past m s x le))
 
-none_some : {X : Type 0} {x : X} {o : Option X} → o ≡ None → o ≡ Some x → ⊥
-none_some e f = cc
-
-some_same : {X : Type 0} {x y : X} → Some x ≡ Some y → x ≡ y
-some_same e = cc
-
 within_get : (xs : List ℕ) (i y : ℕ) → slice_get xs i ≡ Some y → Within y xs
-within_get [] i y e = absurd (none_some refl e)
-within_get (x ∷ xs) zero y e = inl (sym (some_same e))
+within_get [] i y e = absurd (not_none e refl)
+within_get (x ∷ xs) zero y e = inl (let s : x ≡ y = cc in sym s)
 within_get (x ∷ xs) (suc i) y e = inr (within_get xs i y e)
 
 pub port_is : (m : Network) (x y : ℕ) (o : Option ℕ) → ((port : ℕ) → (o ≡ Some port) ↔ (over_port m x port ≡ Some y)) → o ≡ port_to m x y
@@ -40,4 +35,4 @@ port_is m x y o h = go (port_to m x y) refl o refl
     go : (p : Option ℕ) → port_to m x y ≡ p → (z : Option ℕ) → o ≡ z → o ≡ p
     go (Some q) e z g = (h q).1 (sym (over_is q) ∙ index_get y q (neighbours m x) e)
     go None e None g = g
-    go None e (Some q) g = absurd (none_some e (index_found y (neighbours m x) (within_get (neighbours m x) q y (over_is q ∙ (h q).0 g))).1)
+    go None e (Some q) g = absurd (not_none (index_found y (neighbours m x) (within_get (neighbours m x) q y (over_is q ∙ (h q).0 g))).1 e)

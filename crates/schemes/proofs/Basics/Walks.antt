@@ -1,7 +1,7 @@
 -- Walks by their edges, one after the other, and trails by their nodes: the forms in which the laws are proved, joined to the edge map's walks.
-use Rattle.std.proofs.Common.{◌≡◌, ℕ, ◌+◌, ◌≤◌, ◌<◌, true, false, cond, sym, refl, ap, subst, arith, List, [], ◌∷◌, map}
-use Rattle.std.specs.Prelude.{Option, Some, None, is_some, IsSome}
-use Rattle.std.specs.Option.{unwrap_or, option_map}
+use Rattle.std.proofs.Common.{◌≡◌, ℕ, ◌+◌, ◌≤◌, ◌<◌, cond, sym, refl, ap, subst, arith, List, [], ◌∷◌, map}
+use Rattle.std.specs.Prelude.{Option, Some, None, is_some, IsSome, unwrap_or, option_map}
+use Rattle.std.proofs.lemmas.Bool.{false≢true}
 use Rattle.std.specs.List.{filter_map, cons_option}
 use Rattle.graph_edits.specs.Edges.{Network, IsSound, weight_in, below}
 use Rattle.graph_edits.specs.Walks.{IsWalk, walk_length}
@@ -32,10 +32,7 @@ IsTrail m u (a ∷ []) v x = (u ≡ a) × ((v ≡ a) × (x ≡ 0))
 IsTrail m u (a ∷ b ∷ rest) v x = (w : ℕ) × ((y : ℕ) × ((u ≡ a) × ((weight_in m a b ≡ Some w) × ((x ≡ w + y) × IsTrail m b (b ∷ rest) v y))))
 
 some_of : (o : Option ℕ) → IsSome o → o ≡ Some (unwrap_or o 0)
-some_of None e = absurd (bad e)
-  where
-    bad : false ≡ true → ⊥
-    bad e = cc
+some_of None e = absurd (false≢true e)
 some_of (Some w) e = refl
 
 length_of : {w : ℕ} {o : Option ℕ} → o ≡ Some w → unwrap_or o 0 ≡ w

@@ -1,11 +1,13 @@
 -- Where the local equations hold, every record is that of the tree.
 use Rattle.std.proofs.Common.{◌≡◌, ℕ, zero, suc, ◌+◌, ◌≤◌, ◌<◌, ◌==◌, inl, inr, Bool, true, false, cond, sym, refl, ap, subst, ◌∙◌, arith, List, [], ◌∷◌, ◌++◌, map, length, length-append, max}
 use Rattle.std.specs.Prelude.{Option, Some, None}
+use Rattle.std.proofs.lemmas.Bool.{cond_both}
+use Rattle.std.proofs.lemmas.List.{map-append}
 use Rattle.route_tree.specs.Rose.{count, of_list, Tree, tree_size}
 use Rattle.route_tree.specs.Order.{heaviest, fronted}
 use Rattle.heavy_labels.specs.Numbering.{Line, Place, Record, place, lights_at, or_zero, lines, tree_lines, heavy_last, heavy_port, Among}
 use Rattle.heavy_labels.specs.Stepped.{record_of}
-use Rattle.heavy_labels.proofs.Walks.{Among-append}
+use Rattle.heavy_labels.proofs.OneOf.{in_append}
 use Rattle.schemes.specs.Entry.{Entry}
 use Rattle.graph_edits.specs.Edges.{Network, below as up_to}
 use Rattle.schemes.specs.Ports.{filtered}
@@ -21,40 +23,24 @@ abbrev pub Every : (ℕ → Type 0) → List ℕ → Type 0
 Every P [] = Unit {0}
 Every P (x ∷ xs) = P x × Every P xs
 
-cond_either : {X : Type 0} (Q : X → Type 0) (b : Bool) (x y : X) → Q x → Q y → Q (cond b x y)
-cond_either Q true x y p q = p
-cond_either Q false x y p q = q
-
 pub every_append : (P : ℕ → Type 0) (xs ys : List ℕ) → Every P xs → Every P ys → Every P (xs ++ ys)
 every_append P [] ys a b = b
 every_append P (x ∷ xs) ys a b = (a.0, every_append P xs ys a.1 b)
 
 pub every_filtered : (P : ℕ → Type 0) (b : ℕ → Bool) → ((x : ℕ) → b x ≡ true → P x) → (xs : List ℕ) → Every P (filtered b xs)
 every_filtered P b h [] = tt
-every_filtered P b h (x ∷ xs) = go (every_filtered P b h xs) (b x) refl
-  where
-    go : Every P (filtered b xs) → (c : Bool) → b x ≡ c → Every P (cond c (x ∷ filtered b xs) (filtered b xs))
-    go ih true e = (h x e, ih)
-    go ih false e = ih
+every_filtered P b h (x ∷ xs) = (let rest = every_filtered P b h xs in cond_both (b x) (x ∷ filtered b xs) (filtered b xs) (Every P) (λ e. (h x e, rest)) (λ _. rest))
 
 pub every_fronted : (P : ℕ → Type 0) (t : Tables) (r s : ℕ) (passed xs : List ℕ) → Every P passed → Every P xs → Every P (fronted_by t r s passed xs)
 every_fronted P t r s passed [] a b = a
 every_fronted P t r s passed (x ∷ xs) a b =
-    cond_either (Every P) (span (record_at t r x) == s) (x ∷ (passed ++ xs)) (fronted_by t r s (passed ++ x ∷ []) xs)
-    (b.0, every_append P passed xs a b.1)
-    (every_fronted P t r s (passed ++ x ∷ []) xs (every_append P passed (x ∷ []) a (b.0, tt)) b.1)
+    cond_both (span (record_at t r x) == s) (x ∷ (passed ++ xs)) (fronted_by t r s (passed ++ x ∷ []) xs) (Every P)
+    (λ _. (b.0, every_append P passed xs a b.1))
+    (λ _. every_fronted P t r s (passed ++ x ∷ []) xs (every_append P passed (x ∷ []) a (b.0, tt)) b.1)
 
 none_filtered : (b : ℕ → Bool) → ((x : ℕ) → b x ≡ true → ⊥) → (xs : List ℕ) → filtered b xs ≡ []
 none_filtered b h [] = refl
-none_filtered b h (x ∷ xs) = go (none_filtered b h xs) (b x) refl
-  where
-    go : filtered b xs ≡ [] → (c : Bool) → b x ≡ c → cond c (x ∷ filtered b xs) (filtered b xs) ≡ []
-    go ih true e = absurd (h x e)
-    go ih false e = ih
-
-map_append : (f : ℕ → Tree) (xs ys : List ℕ) → map f (xs ++ ys) ≡ map f xs ++ map f ys
-map_append f [] ys = refl
-map_append f (x ∷ xs) ys = ap (λ z. f x ∷ z) (map_append f xs ys)
+none_filtered b h (x ∷ xs) = cond_both (b x) (x ∷ filtered b xs) (filtered b xs) (λ z. z ≡ []) (λ e. absurd (h x e)) (λ _. none_filtered b h xs)
 
 pub same_record : (a b : Record) → a.first ≡ b.first → a.last ≡ b.last → a.heavy_last ≡ b.heavy_last → a.light_depth ≡ b.light_depth → a.parent_port ≡ b.parent_port → a.heavy_port ≡ b.heavy_port → a ≡ b
 same_record a b e1 e2 e3 e4 e5 e6 = λ i. record { first = e1 i; last = e2 i; heavy_last = e3 i; light_depth = e4 i; parent_port = e5 i; heavy_port = e6 i }
@@ -83,17 +69,12 @@ fronted_map : (m : Network) (t : Tables) (r k s : ℕ) (passed xs : List ℕ) �
     → fronted s (map (tree_to_depth m t r k) passed) (map (tree_to_depth m t r k) xs) ≡ map (tree_to_depth m t r k) (fronted_by t r s passed xs)
 fronted_map m t r k s passed [] e = refl
 fronted_map m t r k s passed (x ∷ xs) e =
+    let T : ℕ → Tree = tree_to_depth m t r k in
     ap (λ z. cond (z == s) (T x ∷ (map T passed ++ map T xs)) (fronted s (map T passed ++ T x ∷ []) (map T xs))) (size_is_span m t r k x e.0)
-    ∙ go (fronted_map m t r k s (passed ++ x ∷ []) xs e.1) (span (record_at t r x) == s)
-  where
-    T : ℕ → Tree
-    T = tree_to_depth m t r k
-
-    go : fronted s (map (tree_to_depth m t r k) (passed ++ x ∷ [])) (map (tree_to_depth m t r k) xs) ≡ map (tree_to_depth m t r k) (fronted_by t r s (passed ++ x ∷ []) xs) → (b : Bool)
-        → cond b (tree_to_depth m t r k x ∷ (map (tree_to_depth m t r k) passed ++ map (tree_to_depth m t r k) xs)) (fronted s (map (tree_to_depth m t r k) passed ++ tree_to_depth m t r k x ∷ []) (map (tree_to_depth m t r k) xs))
-        ≡ map (tree_to_depth m t r k) (cond b (x ∷ (passed ++ xs)) (fronted_by t r s (passed ++ x ∷ []) xs))
-    go ih true = ap (λ z. tree_to_depth m t r k x ∷ z) (sym (map_append (tree_to_depth m t r k) passed xs))
-    go ih false = ap (λ z. fronted s z (map (tree_to_depth m t r k) xs)) (sym (map_append (tree_to_depth m t r k) passed (x ∷ []))) ∙ ih
+    ∙ elim (span (record_at t r x) == s) as (λ b. cond b (T x ∷ (map T passed ++ map T xs)) (fronted s (map T passed ++ T x ∷ []) (map T xs)) ≡ map T (cond b (x ∷ (passed ++ xs)) (fronted_by t r s (passed ++ x ∷ []) xs))) [
+      | true ↦ ap (λ z. T x ∷ z) (sym (map-append T passed xs))
+      | false ↦ ap (λ z. fronted s z (map T xs)) (sym (map-append T passed (x ∷ []))) ∙ fronted_map m t r k s (passed ++ x ∷ []) xs e.1
+    ]
 
 -- where the children's records say their sizes, the tree's order of children is that of the records
 pub shape : (m : Network) (t : Tables) (r k x : ℕ) → Every (Sized m t r k) (children t r x) → (tree_to_depth m t r (suc k) x).below ≡ of_list (map (tree_to_depth m t r k) (in_row t r x))
@@ -145,8 +126,12 @@ module _ (m : Network) (t : Tables) (r : ℕ) (d : Distances m t) where
   pub row_empty : (x : ℕ) → IsDeep m t r 0 x → in_row t r x ≡ []
   row_empty x p = ap (λ z. fronted_by t r (widest_span t r z) [] z) (none_filtered (λ y. parent_is x (t.entry y r)) (no_child x p) (up_to t.nodes))
 
-  pub deep_row : (k x : ℕ) → IsDeep m t r (suc k) x → Every (IsDeep m t r k) (in_row t r x)
-  deep_row k x p = every_fronted (IsDeep m t r k) t r (widest_span t r (children t r x)) [] (children t r x) tt (every_filtered (IsDeep m t r k) (λ y. parent_is x (t.entry y r)) (λ y g. child_deep k x y p g) (up_to t.nodes))
+  -- what holds of each deep enough holds of the children, in either order
+  every_child : (P : ℕ → Type 0) (k x : ℕ) → ((y : ℕ) → IsDeep m t r k y → P y) → IsDeep m t r (suc k) x → Every P (children t r x)
+  every_child P k x h p = every_filtered P (λ y. parent_is x (t.entry y r)) (λ y g. h y (child_deep k x y p g)) (up_to t.nodes)
+
+  every_in_row : (P : ℕ → Type 0) (k x : ℕ) → ((y : ℕ) → IsDeep m t r k y → P y) → IsDeep m t r (suc k) x → Every P (in_row t r x)
+  every_in_row P k x h p = every_fronted P t r (widest_span t r (children t r x)) [] (children t r x) tt (every_child P k x h p)
 
 module _ (m : Network) (t : Tables) (r : ℕ) (d : Distances m t) (loc : IsLocal m t r) where
   sized : (k x : ℕ) → IsDeep m t r k x → Sized m t r k x
@@ -154,17 +139,14 @@ module _ (m : Network) (t : Tables) (r : ℕ) (d : Distances m t) (loc : IsLocal
       let row = subst (IsRow m t r true ((record_at t r x).first + 1) (record_at t r x).light_depth ((record_at t r x).last + 1)) (row_empty m t r d x p) (loc.below x p.0 p.1.0).row in
       omega (arith, row)
   sized (suc k) x p =
-      let kids : Every (Sized m t r k) (children t r x) = every_filtered (Sized m t r k) (λ y. parent_is x (t.entry y r)) (λ y g. sized k y (child_deep m t r d k x y p g)) (up_to t.nodes) in
-      let row = every_fronted (Sized m t r k) t r (widest_span t r (children t r x)) [] (children t r x) tt kids in
+      let kids = every_child m t r d (Sized m t r k) k x (λ y q. sized k y q) p in
+      let row = every_in_row m t r d (Sized m t r k) k x (λ y q. sized k y q) p in
       let c = count_row m t r k true ((record_at t r x).first + 1) (record_at t r x).light_depth ((record_at t r x).last + 1) (in_row t r x) row (loc.below x p.0 p.1.0).row in
       let s = ap count (shape m t r k x kids) in
       omega (arith, c, s)
 
   sized_kids : (k x : ℕ) → IsDeep m t r (suc k) x → Every (Sized m t r k) (children t r x)
-  sized_kids k x p = every_filtered (Sized m t r k) (λ y. parent_is x (t.entry y r)) (λ y g. sized k y (child_deep m t r d k x y p g)) (up_to t.nodes)
-
-  sized_row : (k x : ℕ) → IsDeep m t r (suc k) x → Every (Sized m t r k) (in_row t r x)
-  sized_row k x p = every_fronted (Sized m t r k) t r (widest_span t r (children t r x)) [] (children t r x) tt (sized_kids k x p)
+  sized_kids k x p = every_child m t r d (Sized m t r k) k x (sized k) p
 
   heavy_fits : (k x f : ℕ) → IsDeep m t r k x → (record_at t r x).first ≡ f
       → ((record_at t r x).heavy_last ≡ heavy_last f (tree_to_depth m t r k x).below) × ((record_at t r x).heavy_port ≡ heavy_port (tree_to_depth m t r k x).below)
@@ -174,7 +156,7 @@ module _ (m : Network) (t : Tables) (r : ℕ) (d : Distances m t) (loc : IsLocal
   heavy_fits (suc k) x f p e =
       let b = loc.below x p.0 p.1.0 in
       let row = subst (λ z. IsRow m t r true (z + 1) (record_at t r x).light_depth ((record_at t r x).last + 1) (in_row t r x)) e b.row in
-      let v = heavy_row m t r k (record_at t r x) f (record_at t r x).light_depth ((record_at t r x).last + 1) (in_row t r x) (sized_row k x p) row e b.heavy in
+      let v = heavy_row m t r k (record_at t r x) f (record_at t r x).light_depth ((record_at t r x).last + 1) (in_row t r x) (every_in_row m t r d (Sized m t r k) k x (sized k) p) row e b.heavy in
       let s = sym (shape m t r k x (sized_kids k x p)) in
       (v.0 ∙ ap (heavy_last f) s, v.1 ∙ ap heavy_port s)
 
@@ -196,9 +178,6 @@ module _ (m : Network) (t : Tables) (r : ℕ) (d : Distances m t) (loc : IsLocal
   RecordsBelow k = (x f : ℕ) (ls : List ℕ) (above : Line) → IsDeep m t r k x → (record_at t r x).first ≡ f → (record_at t r x).light_depth ≡ length ls
       → (p : Place) (top : Line) → Among (p ∷ top) (lines (tree_to_depth m t r k x).below true (f + 1) ls above) → HasItsRecord t r p
 
-  head_same : (p q : Place) (a b : Line) → p ∷ a ≡ q ∷ b → p ≡ q
-  head_same p q a b e = cc
-
   records_of_row : (k : ℕ) → RecordsBelow k → (ys : List ℕ) (h : Bool) (f depth end : ℕ) (ls : List ℕ) (above : Line) → Every (IsDeep m t r k) ys → depth ≡ length ls → IsRow m t r h f depth end ys
       → (p : Place) (top : Line) → Among (p ∷ top) (lines (of_list (map (tree_to_depth m t r k) ys)) h f ls above) → HasItsRecord t r p
   records_of_row k deep [] h f depth end ls above e l g p top a = absurd a
@@ -212,9 +191,9 @@ module _ (m : Network) (t : Tables) (r : ℕ) (d : Distances m t) (loc : IsLocal
       let depth1 : (record_at t r y).light_depth ≡ length ls1 = g.0.depth_is ∙ lights_length h ls s.down depth l in
       let next : (record_at t r y).last + 1 ≡ f + 1 + count s.below = (let z = sized k y e.0 in omega (arith, z, g.0.first)) in
       elim a [
-        | inl i ↦ subst (HasItsRecord t r) (sym (head_same p here top above i))
+        | inl i ↦ subst (HasItsRecord t r) (let g : here ≡ p = cc in g)
             (record_here k y s.node f s.up s.down ls1 above e.0 (tree_to_depth-node m t r k y) g.0.first depth1 (g.0.port ∙ sym (tree_to_depth-up m t r k y)))
-        | inr b ↦ elim (Among-append (p ∷ top) A B b) [
+        | inr b ↦ elim (in_append (p ∷ top) A B b) [
           | inl c ↦ deep y f ls1 (here ∷ above) e.0 g.0.first depth1 p top c
           | inr c ↦ records_of_row k deep ys false (f + 1 + count s.below) depth end ls above e.1 l (subst (λ z. IsRow m t r false z depth end ys) next g.1) p top c
         ]
@@ -225,7 +204,7 @@ module _ (m : Network) (t : Tables) (r : ℕ) (d : Distances m t) (loc : IsLocal
   records_below (suc k) x f ls above q e1 e2 p top a =
       let b = loc.below x q.0 q.1.0 in
       let row = subst (λ z. IsRow m t r true (z + 1) (record_at t r x).light_depth ((record_at t r x).last + 1) (in_row t r x)) e1 b.row in
-      records_of_row k (records_below k) (in_row t r x) true (f + 1) (record_at t r x).light_depth ((record_at t r x).last + 1) ls above (deep_row m t r d k x q) e2 row p top
+      records_of_row k (records_below k) (in_row t r x) true (f + 1) (record_at t r x).light_depth ((record_at t r x).last + 1) ls above (every_in_row m t r d (IsDeep m t r k) k x (λ y z. z) q) e2 row p top
       (subst (λ z. Among (p ∷ top) (lines z true (f + 1) ls above)) (shape m t r k x (sized_kids k x q)) a)
 
   -- every record of the tree of r is right
@@ -237,7 +216,7 @@ module _ (m : Network) (t : Tables) (r : ℕ) (d : Distances m t) (loc : IsLocal
       let s = tree_at m t r in
       let here = place s.node None None s.below 0 [] [] in
       elim a [
-        | inl e ↦ subst (HasItsRecord t r) (sym (head_same p here top [] e))
+        | inl e ↦ subst (HasItsRecord t r) (let g : here ≡ p = cc in g)
             (record_here k r s.node 0 None None [] [] q (tree_to_depth-node m t r k r) loc.root.first loc.root.depth loc.root.port)
         | inr b ↦ records_below k r 0 [] (here ∷ []) q loc.root.first loc.root.depth p top b
       ]

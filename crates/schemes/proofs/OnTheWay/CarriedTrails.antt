@@ -1,12 +1,12 @@
 -- What a packet does on its way is what the law says of it: from each hop's node step to the trail.
 use Rattle.std.proofs.Common.{◌≡◌, inl, inr, ℕ, ◌+◌, ◌-◌, ◌*◌, ◌^◌, ◌≤◌, ◌<◌, min, sym, refl, ap, subst, ◌∙◌, arith, List, [], ◌∷◌, ◌++◌, length}
 use Rattle.std.specs.Prelude.{Result, Ok, Err}
+use Rattle.std.proofs.lemmas.List.{append-nil}
 use Rattle.graph_edits.specs.Edges.{Network, IsSound, neighbours_of, greatest_weight}
 use Rattle.graph_edits.specs.Walks.{walk_length}
 use Rattle.schemes.specs.declared.parts.Parts.{Parts}
 use Rattle.schemes.specs.declared.packet.Address.{Address}
 use Rattle.schemes.specs.declared.packet.Packet.{Packet}
-use Rattle.schemes.specs.declared.packet.Move.{Move}
 use Rattle.schemes.specs.declared.packet.Move.TheVariants.{Delivered, Forward}
 use Rattle.schemes.specs.declared.packet.Refused.{Refused}
 use Rattle.schemes.specs.declared.trail.Trail.{Trail}
@@ -15,6 +15,7 @@ use Rattle.schemes.specs.Tables.{Tables, tables}
 use Rattle.schemes.specs.Checks.{IsChecked}
 use Rattle.schemes.specs.Service.{address, decide, node_step, one_less, IsGoodTrip, LeadAlong}
 use Rattle.schemes.specs.Trails.{gap, AreMeasured, length_along, Goes, IsUnderWay, IsTrailOf, IsRefusedOnWay, as_carried, IsGoodTrail, IsCarriedWhereConnected, IsUnreachableWhereApart}
+use Rattle.schemes.proofs.Basics.Options.{same_ok, ok_not_err}
 use Rattle.schemes.proofs.Serving.StepsAsMoves.{Ports, Passes}
 use Rattle.schemes.proofs.Serving.Moves.{delivered_not_forward, forward_is, get_map}
 use Rattle.schemes.proofs.Serving.CheckedLaw.{Journey, journey, no_journey, laws_of}
@@ -59,59 +60,32 @@ pub under_way_next : (t : Tables) (u : ℕ) (a : Address) (nodes ports : List �
     → IsUnderWay t u a nodes ports len at left → node_step t at left ≡ Ok (Forward q y next) → nodes2 ≡ nodes ++ y ∷ [] → ports2 ≡ ports ++ q ∷ [] → hop ≡ gap t left.root at y
     → len2 ≡ min (len + hop) (2 ^ 64 - 1) → IsUnderWay t u a nodes2 ports2 len2 y next
 under_way_next t u a nodes ports len at left q y next nodes2 ports2 len2 hop h e e1 e2 e3 e4 =
-    let got = under_way_more t u a nodes ports len at left q y next h e in
-    let same : len2 ≡ min (len + gap t left.root at y) (2 ^ 64 - 1) = e4 ∙ ap (λ z. min (len + z) (2 ^ 64 - 1)) e3 in
-    record {
-      sent = got.sent;
-      decided = got.decided;
-      rest = got.rest;
-      starts = e1 ∙ got.starts;
-      goes = subst (λ z. Goes t u got.rest z got.sent y next) (sym e2) got.goes;
-      same_root = got.same_root;
-      long = same ∙ got.long;
-    }
+    subst (λ z. IsUnderWay t u a z ports2 len2 y next) (sym e1) (subst (λ z. IsUnderWay t u a (nodes ++ y ∷ []) z len2 y next) (sym e2)
+    (subst (λ z. IsUnderWay t u a (nodes ++ y ∷ []) (ports ++ q ∷ []) z y next) (sym (e4 ∙ ap (λ z. min (len + z) (2 ^ 64 - 1)) e3)) (under_way_more t u a nodes ports len at left q y next h e)))
 
 -- ---- the way that is carried is the only one
-
-two_moves : (q p y z : ℕ) (a b : Packet) (o : Result Move Refused) → o ≡ Ok (Forward q y a) → o ≡ Ok (Forward p z b) → (y ≡ z) × (a ≡ b)
-two_moves q p y z a b o e f =
-    let same : Ok (Forward q y a) ≡ Ok (Forward p z b) = sym e ∙ f in
-    (cc, cc)
-
-not_delivered : (q y : ℕ) (a : Packet) (o : Result Move Refused) → o ≡ Ok Delivered → o ≡ Ok (Forward q y a) → ⊥
-not_delivered q y a o e f = delivered_not_forward q y a o e f
-
-not_refused : (w : Move) (r : Refused) (o : Result Move Refused) → o ≡ Ok w → o ≡ Err r → ⊥
-not_refused w r o e f = (let same : Ok w ≡ Err r = sym e ∙ f in cc)
 
 carried_on : (t : Tables) (x : ℕ) (trip ys qs : List ℕ) (k : Packet) (at : ℕ) (left : Packet) → Passes t x trip k → Goes t x ys qs k at left
     → (more : List ℕ) × (Passes t at more left × (trip ≡ ys ++ more))
 carried_on t x trip [] [] k at left c g = (trip, (subst (λ z. Passes t z trip left) g.0 (subst (Passes t x trip) g.1 c), refl))
 carried_on t x trip [] (q ∷ qs) k at left c g = absurd g
 carried_on t x trip (y ∷ ys) [] k at left c g = absurd g
-carried_on t x [] (y ∷ ys) (q ∷ qs) k at left c g = absurd (not_delivered q y (one_less k) (node_step t x k) c g.0)
+carried_on t x [] (y ∷ ys) (q ∷ qs) k at left c g = absurd (delivered_not_forward q y (one_less k) (node_step t x k) c g.0)
 carried_on t x (z ∷ trip) (y ∷ ys) (q ∷ qs) k at left c g =
-    let same = two_moves c.0.0 q z y (one_less k) (one_less k) (node_step t x k) c.0.1 g.0 in
-    let ih = carried_on t y trip ys qs (one_less k) at left (subst (λ w. Passes t w trip (one_less k)) same.0 c.1) g.1 in
-    (ih.0, (ih.1.0, ap (λ w. w ∷ trip) same.0 ∙ ap (λ w. y ∷ w) ih.1.1))
+    let same : z ≡ y = same_node (same_ok c.0.1 g.0) in
+    let ih = carried_on t y trip ys qs (one_less k) at left (subst (λ w. Passes t w trip (one_less k)) same c.1) g.1 in
+    (ih.0, (ih.1.0, ap (λ w. w ∷ trip) same ∙ ap (λ w. y ∷ w) ih.1.1))
+  where
+    same_node : {q p y z : ℕ} {a b : Packet} → Forward q y a ≡ Forward p z b → y ≡ z
+    same_node e = cc
 
 ends_there : (t : Tables) (at : ℕ) (more : List ℕ) (left : Packet) → Passes t at more left → node_step t at left ≡ Ok Delivered → more ≡ []
 ends_there t at [] left c d = refl
-ends_there t at (y ∷ more) left c d = absurd (not_delivered c.0.0 y (one_less left) (node_step t at left) d c.0.1)
+ends_there t at (y ∷ more) left c d = absurd (delivered_not_forward c.0.0 y (one_less left) (node_step t at left) d c.0.1)
 
 never_refused : (t : Tables) (at : ℕ) (more : List ℕ) (left : Packet) (r : Refused) → Passes t at more left → node_step t at left ≡ Err r → ⊥
-never_refused t at [] left r c d = not_refused Delivered r (node_step t at left) c d
-never_refused t at (y ∷ more) left r c d = not_refused (Forward c.0.0 y (one_less left)) r (node_step t at left) c.0.1 d
-
-append-nil : (xs : List ℕ) → xs ++ [] ≡ xs
-append-nil [] = refl
-append-nil (x ∷ xs) = ap (λ z. x ∷ z) (append-nil xs)
-
-same_sent : {a b : Packet} {o : Result Packet Refused} → o ≡ Ok a → o ≡ Ok b → a ≡ b
-same_sent e f = cc
-
-decided_twice : {a : Packet} {r : Refused} {o : Result Packet Refused} → o ≡ Ok a → o ≡ Err r → ⊥
-decided_twice e f = cc
+never_refused t at [] left r c d = ok_not_err c d
+never_refused t at (y ∷ more) left r c d = ok_not_err c.0.1 d
 
 -- ---- ports and length
 
@@ -149,7 +123,7 @@ good_trail : (m : Network) → IsSound m → (p : Parts) → IsChecked m p → (
 good_trail m s p h u v a trail j is k =
     let t = tables p in
     let way = k.under_way in
-    let sent = same_sent (ap (decide t u) (sym is) ∙ way.decided) j.decided in
+    let sent = same_ok (ap (decide t u) (sym is) ∙ way.decided) j.decided in
     let on = carried_on t u j.trip way.rest trail.ports.items way.sent k.at k.left (subst (Passes t u j.trip) (sym sent) j.carried) way.goes in
     let trip : j.trip ≡ way.rest = on.1.1 ∙ ap (λ z. way.rest ++ z) (ends_there t k.at on.0 k.left on.1.0 k.delivered) ∙ append-nil way.rest in
     let good = subst (IsGoodTrip m u v) trip j.good in
@@ -171,16 +145,16 @@ connected_refused p u a r k m v xs s h i j is w = absurd (
     let way = journey m t (laws_of m s p h) u v xs i j w in
     let decided : decide t u a ≡ Ok way.sent = ap (decide t u) is ∙ way.decided in
     elim k [
-      | inl e ↦ decided_twice decided e
+      | inl e ↦ ok_not_err decided e
       | inr e ↦ (
           let on_way = e.1.1.1.1.1.0 in
-          let sent = same_sent on_way.decided decided in
+          let sent = same_ok on_way.decided decided in
           let on = carried_on t u way.trip on_way.rest e.1.0 on_way.sent e.1.1.1.0 e.1.1.1.1.0 (subst (Passes t u way.trip) (sym sent) way.carried) on_way.goes in
           never_refused t e.1.1.1.0 on.0 e.1.1.1.1.0 r on.1.0 e.1.1.1.1.1.1)
     ])
 
 pub apart_ok : (p : Parts) (u : ℕ) (a : Address) (sent : Packet) (result : Result Trail CarryRefused) → decide (tables p) u a ≡ Ok sent → IsUnreachableWhereApart p u a result
-apart_ok p u a sent result d m v s h i j is none = absurd (decided_twice d (ap (decide (tables p) u) is ∙ no_journey m (tables p) (laws_of m s p h) u v i j none))
+apart_ok p u a sent result d m v s h i j is none = absurd (ok_not_err d (ap (decide (tables p) u) is ∙ no_journey m (tables p) (laws_of m s p h) u v i j none))
 
 pub apart_refused : (p : Parts) (u : ℕ) (a : Address) (r : Refused) → decide (tables p) u a ≡ Err r → IsUnreachableWhereApart p u a (Err (as_carried r))
 apart_refused p u a r d m v s h i j is none =

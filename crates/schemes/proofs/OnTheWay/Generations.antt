@@ -1,6 +1,7 @@
 -- A packet has the generation of the scheme that sends it, and keeps it on its way.
-use Rattle.std.proofs.Common.{◌≡◌, ℕ, Bool, true, false, cond, refl, nat_lt, ◌==◌, ◌&&◌}
+use Rattle.std.proofs.Common.{◌≡◌, ℕ, Bool, cond, refl, nat_lt, ◌==◌, ◌&&◌}
 use Rattle.std.specs.Prelude.{Option, Some, None, Result, Ok, Err, IfOk, is_some}
+use Rattle.std.proofs.lemmas.Bool.{cond_both}
 use Rattle.heavy_labels.specs.Label.{Label}
 use Rattle.heavy_labels.specs.Numbering.{Step, arrived, port, no_parent, no_light, step}
 use Rattle.heavy_labels.specs.Stepped.{record_of}
@@ -15,8 +16,7 @@ use Rattle.schemes.specs.Tables.{Tables}
 use Rattle.schemes.specs.Service.{IsOfGeneration, by_directory, through_home, decide, packet_by, forward_over, move_by, move_at, node_step, one_less}
 
 either : {X : Type 0} (P : X → Type 0) (b : Bool) (r s : Result X Refused) → IfOk r P → IfOk s P → IfOk (cond b r s) P
-either P true r s h k = h
-either P false r s h k = k
+either P b r s h k = cond_both b r s (λ z. IfOk z P) (λ _. h) (λ _. k)
 
 abbrev OfScheme : Tables → Packet → Type 0
 OfScheme t k = k.generation ≡ t.generation

@@ -1,5 +1,5 @@
 -- The laws of packets on their way.
-use Rattle.std.proofs.Common.{◌≡◌, ◌≢◌, ◌⊎◌, inl, inr, ◌<◌, ◌≤◌, ◌+◌, ◌-◌, max, ℕ, zero, suc, List, [], ◌∷◌, ◌++◌, length, refl, sym, ap, ◌∙◌, subst, arith}
+use Rattle.std.proofs.Common.{◌≡◌, ◌≢◌, ◌⊎◌, inl, inr, ◌<◌, ◌≤◌, ◌+◌, ◌-◌, ℕ, zero, suc, List, [], ◌∷◌, ◌++◌, length, refl, sym, ap, ◌∙◌, subst, arith}
 use Rattle.std.specs.Prelude.{Result, Ok, Err}
 use Rattle.graph_edits.specs.Edges.{Network}
 use Rattle.schemes.specs.declared.packet.Packet.{Packet}
@@ -9,7 +9,8 @@ use Rattle.schemes.specs.declared.packet.Refused.{Refused}
 use Rattle.schemes.specs.Tables.{Tables}
 use Rattle.schemes.specs.Service.{node_step, one_less, Carries, LeadAlong, Arrives}
 use Rattle.schemes.specs.Ways.{Went, ServedStayOnCourse, AllComeToAnEnd}
-use Rattle.schemes.proofs.Serving.Moves.{forward_is}
+use Rattle.schemes.proofs.Basics.Options.{same_ok, ok_not_err}
+use Rattle.schemes.proofs.Serving.Moves.{delivered_not_forward, forward_is}
 
 -- ---- on a course
 
@@ -29,7 +30,7 @@ rest_of m t x [] trip qs k at left went carries lead = record {
   carries = subst (λ (p : Packet). Carries t at trip qs p) went.1 (subst (λ (y : ℕ). Carries t y trip qs k) went.0 carries);
   lead = subst (λ (y : ℕ). LeadAlong m y trip qs) went.0 lead;
 }
-rest_of m t x (y ∷ ys) [] [] k at left went carries lead = absurd (let e : ◌≡◌ {A = Result Move Refused} (Ok (Forward went.0 y went.1)) (Ok Delivered) = sym went.2 ∙ carries in cc)
+rest_of m t x (y ∷ ys) [] [] k at left went carries lead = delivered_not_forward went.0 y went.1 (node_step t x k) carries went.2
 rest_of m t x (y ∷ ys) [] (q ∷ qs) k at left went carries lead = absurd carries
 rest_of m t x (y ∷ ys) (z ∷ trip) [] k at left went carries lead = absurd carries
 rest_of m t x (y ∷ ys) (z ∷ trip) (q ∷ qs) k at left went carries lead =
@@ -49,8 +50,8 @@ one_trip t x [] [] [] (p ∷ ps) k c d = absurd d
 one_trip t x [] [] (z ∷ zs) [] k c d = absurd d
 one_trip t x (y ∷ ys) (q ∷ qs) [] (p ∷ ps) k c d = absurd d
 one_trip t x (y ∷ ys) (q ∷ qs) (z ∷ zs) [] k c d = absurd d
-one_trip t x [] [] (z ∷ zs) (p ∷ ps) k c d = absurd (let e : ◌≡◌ {A = Result Move Refused} (Ok Delivered) (Ok (Forward p z (one_less k))) = sym c ∙ d.0 in cc)
-one_trip t x (y ∷ ys) (q ∷ qs) [] [] k c d = absurd (let e : ◌≡◌ {A = Result Move Refused} (Ok (Forward q y (one_less k))) (Ok Delivered) = sym c.0 ∙ d in cc)
+one_trip t x [] [] (z ∷ zs) (p ∷ ps) k c d = delivered_not_forward p z (one_less k) (node_step t x k) c d.0
+one_trip t x (y ∷ ys) (q ∷ qs) [] [] k c d = delivered_not_forward q y (one_less k) (node_step t x k) d c.0
 one_trip t x (y ∷ ys) (q ∷ qs) (z ∷ zs) (p ∷ ps) k c d =
     let e : ◌≡◌ {A = Result Move Refused} (Ok (Forward q y (one_less k))) (Ok (Forward p z (one_less k))) = sym c.0 ∙ d.0 in
     let yz : y ≡ z = cc in
@@ -59,24 +60,21 @@ one_trip t x (y ∷ ys) (q ∷ qs) (z ∷ zs) (p ∷ ps) k c d =
 
 -- a step that carries on, or delivers, is no refusal
 no_refusal : (t : Tables) (at : ℕ) (more ports : List ℕ) (left : Packet) (refused : Refused) → Carries t at more ports left → node_step t at left ≢ Err refused
-no_refusal t at [] [] left refused c e = (let s : ◌≡◌ {A = Result Move Refused} (Ok Delivered) (Err refused) = sym c ∙ e in cc)
+no_refusal t at [] [] left refused c e = ok_not_err c e
 no_refusal t at [] (q ∷ qs) left refused c e = c
 no_refusal t at (z ∷ more) [] left refused c e = c
-no_refusal t at (z ∷ more) (q ∷ qs) left refused c e = (let s : ◌≡◌ {A = Result Move Refused} (Ok (Forward q z (one_less left))) (Err refused) = sym c.0 ∙ e in cc)
-
-same_sent : {a b : Packet} {o : Result Packet Refused} → o ≡ Ok a → o ≡ Ok b → a ≡ b
-same_sent e f = cc
+no_refusal t at (z ∷ more) (q ∷ qs) left refused c e = ok_not_err c.0 e
 
 pub course_law : ServedStayOnCourse
 course_law m t serves u v sent visited at left i j decided went =
     let arrives : Arrives m t u v = serves.sent u v sent i j decided in
-    let same : arrives.sent ≡ sent = same_sent arrives.decided decided in
+    let same : arrives.sent ≡ sent = same_ok arrives.decided decided in
     let carried : Carries t u arrives.trip arrives.ports sent = subst (λ (k : Packet). Carries t u arrives.trip arrives.ports k) same arrives.carried in
     let r = rest_of m t u visited arrives.trip arrives.ports sent at left went carried arrives.lead in
     record {
       arrives = arrives;
       only = λ (other : Arrives m t u v). one_trip t u other.trip other.ports arrives.trip arrives.ports arrives.sent
-          (subst (λ (k : Packet). Carries t u other.trip other.ports k) (same_sent other.decided arrives.decided) other.carried) arrives.carried;
+          (subst (λ (k : Packet). Carries t u other.trip other.ports k) (same_ok other.decided arrives.decided) other.carried) arrives.carried;
       more = r.more;
       ports = r.ports;
       beginning = r.whole;
@@ -124,9 +122,6 @@ end_from : (t : Tables) (most : ℕ) (x : ℕ) (k : Packet) → k.hops_left ≤ 
 end_from t zero x k le = end_by t x k (λ y next less. absurd (omega (arith, less, le))) (node_step t x k) refl
 end_from t (suc most) x k le = end_by t x k (λ y next less. end_from t most y next (omega (arith, less, le))) (node_step t x k) refl
 
-few_steps : (n hops len : ℕ) → len ≤ hops → hops < n → len + 1 ≤ max 1 n
-few_steps n hops len le lt = omega (arith, le, lt)
-
 pub end_law : AllComeToAnEnd
 end_law t x k =
     let end = end_from t k.hops_left x k (omega arith) in
@@ -136,8 +131,8 @@ end_law t x k =
       left = end.left;
       went = end.went;
       few = elim end.inside [
-        | inl none ↦ subst (λ (ys : List ℕ). length ys + 1 ≤ max 1 t.nodes) (sym none) (let one : 0 + 1 ≤ max 1 t.nodes = omega arith in one)
-        | inr inside ↦ few_steps t.nodes k.hops_left (length end.visited) end.few inside
+        | inl none ↦ (let l = ap (λ (ys : List ℕ). length ys) none in omega (arith, l))
+        | inr inside ↦ (let f = end.few in omega (arith, f, inside))
       ];
       last = end.last;
     }

@@ -1,19 +1,18 @@
 -- The law: tables that keep all rules serve the network.
-use Rattle.std.proofs.Common.{◌≡◌, ℕ, suc, ◌+◌, ◌≤◌, ◌<◌, ◌⊎◌, inl, inr, Bool, true, false, cond, eqb, refl, sym, ap, subst, ◌∙◌, arith, List, [], ◌∷◌, nat_lt, ◌==◌}
-use Rattle.std.specs.Prelude.{Option, Some, None, Result, Ok, Err, IsSome, slice_get}
-use Rattle.std.proofs.lemmas.Bool.{eqb-true, eq-eqb, lt-ltb}
+use Rattle.std.proofs.Common.{◌≡◌, ℕ, suc, ◌+◌, ◌≤◌, ◌<◌, ◌⊎◌, inl, inr, true, false, refl, sym, ap, subst, ◌∙◌, arith, List, [], ◌∷◌, nat_lt, ◌==◌}
+use Rattle.std.specs.Prelude.{Option, Some, None, Ok, Err, IsSome, slice_get}
+use Rattle.std.proofs.lemmas.Bool.{cases_Bool, cases_eq, cond_both, eqb-true, lt-ltb}
 use Rattle.heavy_labels.specs.Label.{Label}
 use Rattle.schemes.specs.declared.parts.Parts.{Parts}
 use Rattle.schemes.specs.Entry.{Entry}
 use Rattle.schemes.specs.declared.parts.Listed.{Listed}
 use Rattle.landmarks.specs.declared.near.Near.{Near}
 use Rattle.graph_edits.specs.Edges.{Network, IsSound}
-use Rattle.schemes.proofs.Basics.Walks.{walk_from, walk_of, Walk, stay, go, symmetric, edge_inside}
+use Rattle.schemes.proofs.Basics.Walks.{walk_from, Walk, stay, go, symmetric, edge_inside}
 use Rattle.schemes.specs.Tables.{Tables, tables, directory_at, first_listed}
-use Rattle.schemes.specs.Checks.{Fault, Holds, IsShaped, number_of, IsChecked, HasRecords, IsLabelIn, IsListed, k1, k2, k3, k4, k5, k6, k7, k8}
+use Rattle.schemes.specs.Checks.{Fault, Holds, number_of, IsChecked, HasRecords, IsLabelIn, IsListed, k1, k2, k3, k4, k5, k6, k7, k8}
 use Rattle.graph_edits.specs.Walks.{IsWalk, walk_length}
 use Rattle.schemes.specs.declared.packet.Packet.{Packet}
-use Rattle.schemes.specs.declared.packet.Refused.{Refused}
 use Rattle.schemes.specs.declared.packet.Refused.TheVariants.{Unreachable}
 use Rattle.schemes.specs.Service.{Serves, Arrives, IsGoodTrip, address, packet_by, decide}
 use Rattle.schemes.specs.Trails.{AreMeasured}
@@ -21,30 +20,20 @@ use Rattle.schemes.proofs.Serving.StepsAsMoves.{Ports, Passes}
 use Rattle.schemes.proofs.Serving.Moves.{ported}
 use Rattle.schemes.proofs.Serving.Exact.{Distances, exact, real, reach, close, nearest_least}
 use Rattle.schemes.proofs.Serving.TripsInTrees.{trip_in_tree}
-use Rattle.schemes.proofs.Basics.Options.{is_there, some_is, not_none}
+use Rattle.schemes.proofs.Basics.Options.{is_there, some_is, same_value, not_none, ok_not_err}
 
 -- the rules on distances, out of the first five checks
 pub distances_from : (m : Network) → IsSound m → (p : Parts) → ((k : Fault) → number_of k ≤ 5 → Holds m p k) → Distances m (tables p)
 distances_from m s p h = record {
   sound = s;
-  own = shaped.own;
-  parents = λ x r e g. parent_or_root x r e g (eqb x r) refl;
-  inside = shaped.roots_inside;
+  own = (h k1 (omega arith)).own;
+  parents = λ x r e g. elim (cases_eq x r) [ inl q ↦ inl q | inr ne ↦ (let y = (h k1 (omega arith)).parents x r e g ne in inr (y.0, y.1.0)) ];
+  inside = (h k1 (omega arith)).roots_inside;
   closed = h k2 (omega arith);
   tight = h k3 (omega arith);
   strict = h k4 (omega arith);
   nearest = h k5 (omega arith);
 }
-  where
-    shaped : IsShaped m p
-    shaped = h k1 (omega arith)
-
-    not_both : {b : Bool} → b ≡ true → b ≡ false → ⊥
-    not_both u v = cc
-
-    parent_or_root : (x r : ℕ) (e : Entry) → (tables p).entry x r ≡ Some e → (b : Bool) → eqb x r ≡ b → (x ≡ r) ⊎ ((y : ℕ) × (e.parent ≡ Some y))
-    parent_or_root x r e g true q = inl (eqb-true x r q)
-    parent_or_root x r e g false q = (let y = (h k1 (omega arith)).parents x r e g (λ z. not_both (eq-eqb x r z) q) in inr (y.0, y.1.0))
 
 pub distances_of : (m : Network) → IsSound m → (p : Parts) → IsChecked m p → Distances m (tables p)
 distances_of m s p h = distances_from m s p (λ k _. h k)
@@ -73,9 +62,6 @@ pub record TableLaws (m : Network) (t : Tables) : Type 0 where
   pub entry_listed : (u v : ℕ) (e : Entry) → u < m.nodes → t.landmark u ≡ false → t.entry v u ≡ Some e → (l : Label) × (t.listed u v ≡ Some l)
   pub homes : (v : ℕ) (q : Near) → v < m.nodes → t.nearest v ≡ Some q → (l : Label) × (t.home v ≡ Some l)
 
-same : {X : Type 0} {x y : X} {o : Option X} → o ≡ Some x → o ≡ Some y → x ≡ y
-same e f = cc
-
 -- a packet from u to v arrives, each hop measured by the distances in its tree
 pub record Journey (m : Network) (t : Tables) (u v : ℕ) : Type 0 where
   pub sent : Packet
@@ -95,7 +81,7 @@ module _ (m : Network) (t : Tables) (h : TableLaws m t) where
       let e = h.listed_entry u v l i g in
       let o = h.distances.own u i in
       let r = trip_in_tree m t h.distances h.ports h.records u u v o.0 e.0 l o.1.0 e.1 (h.listed_label u v l g (some_is e.1)) in
-      let s = exact m t h.distances v u e.0 (t.landmark u) refl e.1 in
+      let s = exact m t h.distances v u e.0 e.1 in
       record {
         sent = packet_by t v u l;
         trip = r.trip;
@@ -110,19 +96,21 @@ module _ (m : Network) (t : Tables) (h : TableLaws m t) where
       }
 
   -- v's nearest landmark is no farther from v than u is, where u's directory hasn't v
-  near : (u v y : ℕ) → u < m.nodes → t.listed u v ≡ None → (b : Bool) → t.landmark u ≡ b → Walk m u v y → (q : Near) × ((t.nearest v ≡ Some q) × (q.distance ≤ y))
-  near u v y i g true b w = nearest_least m t h.distances u v y b i w
-  near u v y i g false b w =
-      let o = h.distances.own u i in
-      elim (close m t h.distances u v u y o.0 o.1.0 w) [
-        | inl f ↦ absurd (not_none (h.entry_listed u v f.0 i b f.1.0).1 g)
-        | inr q ↦ (q.0, (q.1.0, omega (arith, q.1.1, o.1.1.0)))
-      ]
+  near : (u v y : ℕ) → u < m.nodes → t.listed u v ≡ None → Walk m u v y → (q : Near) × ((t.nearest v ≡ Some q) × (q.distance ≤ y))
+  near u v y i g w = elim (cases_Bool (t.landmark u)) [
+    | inl b ↦ nearest_least m t h.distances u v y b i w
+    | inr b ↦ (
+        let o = h.distances.own u i in
+        elim (close m t h.distances u v u y o.0 o.1.0 w) [
+          | inl f ↦ absurd (not_none (h.entry_listed u v f.0 i b f.1.0).1 g)
+          | inr q ↦ (q.0, (q.1.0, omega (arith, q.1.1, o.1.1.0)))
+        ])
+  ]
 
   -- in the tree of v's nearest landmark
   by_home : (u v x : ℕ) → u < m.nodes → v < m.nodes → t.listed u v ≡ None → Walk m u v x → Journey m t u v
   by_home u v x i j g w =
-      let q = near u v x i g (t.landmark u) refl w in
+      let q = near u v x i g w in
       let p = q.0.landmark in
       let l = h.homes v q.0 j q.1.0 in
       let at = h.distances.nearest.there v q.0 q.1.0 in
@@ -140,67 +128,56 @@ module _ (m : Network) (t : Tables) (h : TableLaws m t) where
           short = λ xs k. (
               let y = walk_length m.edges u xs in
               let w2 = walk_from m u xs v i h.distances.sound k in
-              let q2 = near u v y i g (t.landmark u) refl w2 in
+              let q2 = near u v y i g w2 in
               let f2 = reach m t h.distances v u p y at.1.0 at.0 at.1.1.0 (turn m h.distances.sound u v y w2) in
-              let sq = ap (λ (z : Near). z.distance) (same q.1.0 q2.1.0) in
-              let sf = ap (λ (z : Entry). z.distance) (same f.1.0 f2.1.0) in
+              let sq = ap (λ (z : Near). z.distance) (same_value q.1.0 q2.1.0) in
+              let sf = ap (λ (z : Entry). z.distance) (same_value f.1.0 f2.1.0) in
               omega (arith, r.short, q2.1.1, f2.1.1, sq, sf, at.1.1.1));
         };
       }
 
-  connected : (u v x : ℕ) (o : Option Label) → t.listed u v ≡ o → u < m.nodes → v < m.nodes → Walk m u v x → Journey m t u v
-  connected u v x (Some l) g i j w = by_own_tree u v l i j g
-  connected u v x None g i j w = by_home u v x i j g w
-
-  -- with no walk, neither a directory nor a landmark's tree leads from u to v
-  no_entry : (u v : ℕ) (q : Near) (o : Option Entry) → t.nearest v ≡ Some q → t.entry u q.landmark ≡ o → ((x : ℕ) → Walk m u v x → ⊥) → o ≡ None
-  no_entry u v q None g k none = refl
-  no_entry u v q (Some e) g k none =
+  -- to u with an entry in the tree of v's nearest landmark, from there to v
+  to_home : (u v : ℕ) (q : Near) (e : Entry) → t.nearest v ≡ Some q → t.entry u q.landmark ≡ Some e → (x : ℕ) × Walk m u v x
+  to_home u v q e g k =
       let at = h.distances.nearest.there v q g in
       let a = real m t h.distances (suc e.distance) u q.landmark e (omega arith) k in
       let b = real m t h.distances (suc at.1.0.distance) v q.landmark at.1.0 (omega arith) at.1.1.0 in
-      absurd (none (e.distance + at.1.0.distance) (join m u q.landmark v e.distance at.1.0.distance (turn m h.distances.sound q.landmark u e.distance a) b))
+      (e.distance + at.1.0.distance, join m u q.landmark v e.distance at.1.0.distance (turn m h.distances.sound q.landmark u e.distance a) b)
 
-  apart_home : (u v : ℕ) (o : Option Near) → u < m.nodes → v < m.nodes → t.listed u v ≡ None → t.nearest v ≡ o → ((x : ℕ) → Walk m u v x → ⊥) → decide t u (address t v) ≡ Err Unreachable
-  apart_home u v None i j g n none = rw (inside u i, inside v j, g, n) refl
-  apart_home u v (Some q) i j g n none =
+  -- a packet from u to v arrives, or it is refused and no walk leads there
+  abbrev Cut : ℕ → ℕ → Type 0
+  Cut u v = (decide t u (address t v) ≡ Err Unreachable) × ((x : ℕ) → Walk m u v x → ⊥)
+
+  by_entry : (u v : ℕ) (q : Near) (o : Option Entry) → u < m.nodes → v < m.nodes → t.listed u v ≡ None → t.nearest v ≡ Some q → t.entry u q.landmark ≡ o → Journey m t u v ⊎ Cut u v
+  by_entry u v q (Some e) i j g n k = (let w = to_home u v q e n k in inl (by_home u v w.0 i j g w.1))
+  by_entry u v q None i j g n k =
       let l = h.homes v q j n in
-      let e = no_entry u v q (t.entry u q.landmark) n refl none in
-      rw (inside u i, inside v j, g, n, l.1, e) refl
+      let at = h.distances.nearest.there v q n in
+      inr (
+        rw (inside u i, inside v j, g, n, l.1, k) refl,
+        λ x w. not_none (reach m t h.distances v u q.landmark x at.1.0 at.0 at.1.1.0 (turn m h.distances.sound u v x w)).1.0 k,
+      )
 
-  apart : (u v : ℕ) (o : Option Label) → t.listed u v ≡ o → u < m.nodes → v < m.nodes → ((x : ℕ) → Walk m u v x → ⊥) → decide t u (address t v) ≡ Err Unreachable
-  apart u v (Some l) g i j none =
-      let e = h.listed_entry u v l i g in
-      absurd (none e.0.distance (real m t h.distances (suc e.0.distance) v u e.0 (omega arith) e.1))
-  apart u v None g i j none = apart_home u v (t.nearest v) i j g refl none
+  by_nearest : (u v : ℕ) (o : Option Near) → u < m.nodes → v < m.nodes → t.listed u v ≡ None → t.nearest v ≡ o → Journey m t u v ⊎ Cut u v
+  by_nearest u v (Some q) i j g n = by_entry u v q (t.entry u q.landmark) i j g n refl
+  by_nearest u v None i j g n = inr (rw (inside u i, inside v j, g, n) refl, λ x w. not_none (near u v x i g w).1.0 n)
+
+  by_listed : (u v : ℕ) (o : Option Label) → u < m.nodes → v < m.nodes → t.listed u v ≡ o → Journey m t u v ⊎ Cut u v
+  by_listed u v (Some l) i j g = inl (by_own_tree u v l i j g)
+  by_listed u v None i j g = by_nearest u v (t.nearest v) i j g refl
+
+  either : (u v : ℕ) → u < m.nodes → v < m.nodes → Journey m t u v ⊎ Cut u v
+  either u v i j = by_listed u v (t.listed u v) i j refl
 
   pub journey : (u v : ℕ) (xs : List ℕ) → u < m.nodes → v < m.nodes → IsWalk m.edges u xs v → Journey m t u v
-  journey u v xs i j w = connected u v (walk_length m.edges u xs) (t.listed u v) refl i j (walk_from m u xs v i h.distances.sound w)
+  journey u v xs i j w = elim (either u v i j) [ inl k ↦ k | inr k ↦ absurd (k.1 (walk_length m.edges u xs) (walk_from m u xs v i h.distances.sound w)) ]
 
   pub no_journey : (u v : ℕ) → u < m.nodes → v < m.nodes → ((xs : List ℕ) → IsWalk m.edges u xs v → ⊥) → decide t u (address t v) ≡ Err Unreachable
-  no_journey u v i j none = apart u v (t.listed u v) refl i j (λ x w. (let k = walk_of m u v x w in none k.0 k.1.0))
+  no_journey u v i j none = elim (either u v i j) [ inl k ↦ absurd (none k.trip k.good.walk) | inr k ↦ k.0 ]
 
   -- a packet that was sent has a journey
-  not_refused : (k : Packet) (e : Refused) (o : Result Packet Refused) → o ≡ Ok k → o ≡ Err e → ⊥
-  not_refused k e o f g = (let same : ◌≡◌ {A = Result Packet Refused} (Ok k) (Err e) = sym f ∙ g in cc)
-
-  sent_home : (u v : ℕ) (k : Packet) (q : Near) (o : Option Entry) → u < m.nodes → v < m.nodes → t.listed u v ≡ None → t.nearest v ≡ Some q → t.entry u q.landmark ≡ o → decide t u (address t v) ≡ Ok k → Journey m t u v
-  sent_home u v k q None i j g n e d =
-      let l = h.homes v q j n in
-      absurd (not_refused k Unreachable (decide t u (address t v)) d (rw (inside u i, inside v j, g, n, l.1, e) refl))
-  sent_home u v k q (Some e) i j g n there d =
-      let at = h.distances.nearest.there v q n in
-      let a = real m t h.distances (suc e.distance) u q.landmark e (omega arith) there in
-      let b = real m t h.distances (suc at.1.0.distance) v q.landmark at.1.0 (omega arith) at.1.1.0 in
-      by_home u v (e.distance + at.1.0.distance) i j g (join m u q.landmark v e.distance at.1.0.distance (turn m h.distances.sound q.landmark u e.distance a) b)
-
-  sent_near : (u v : ℕ) (k : Packet) (o : Option Near) → u < m.nodes → v < m.nodes → t.listed u v ≡ None → t.nearest v ≡ o → decide t u (address t v) ≡ Ok k → Journey m t u v
-  sent_near u v k None i j g n d = absurd (not_refused k Unreachable (decide t u (address t v)) d (rw (inside u i, inside v j, g, n) refl))
-  sent_near u v k (Some q) i j g n d = sent_home u v k q (t.entry u q.landmark) i j g n refl d
-
-  sent_by : (u v : ℕ) (k : Packet) (o : Option Label) → t.listed u v ≡ o → u < m.nodes → v < m.nodes → decide t u (address t v) ≡ Ok k → Journey m t u v
-  sent_by u v k (Some l) g i j d = by_own_tree u v l i j g
-  sent_by u v k None g i j d = sent_near u v k (t.nearest v) i j g refl d
+  sent_by : (u v : ℕ) (k : Packet) → u < m.nodes → v < m.nodes → decide t u (address t v) ≡ Ok k → Journey m t u v
+  sent_by u v k i j d = elim (either u v i j) [ inl w ↦ w | inr w ↦ absurd (ok_not_err d w.0) ]
 
   arrives : (u v : ℕ) → Journey m t u v → Arrives m t u v
   arrives u v j =
@@ -212,21 +189,14 @@ module _ (m : Network) (t : Tables) (h : TableLaws m t) where
     nodes = h.ports.nodes;
     connected = λ u v xs i j w. arrives u v (journey u v xs i j w);
     apart = no_journey;
-    sent = λ u v k i j d. arrives u v (sent_by u v k (t.listed u v) refl i j d);
+    sent = λ u v k i j d. arrives u v (sent_by u v k i j d);
   }
-
--- a landmark lists none
-none_listed : (p : Parts) (u v : ℕ) (l : Label) → directory_at p u ≡ [] → (tables p).listed u v ≡ Some l → ⊥
-none_listed p u v l e g = not_none g (ap (first_listed v) e)
 
 pub first_is_listed : (v : ℕ) (es : List Listed) (l : Label) → first_listed v es ≡ Some l → (e : Listed) × (IsListed e es × ((e.node ≡ v) × (e.label ≡ l)))
 first_is_listed v [] l g = absurd (not_none g refl)
-first_is_listed v (e ∷ es) l g = go (λ k. first_is_listed v es l k) (e.node == v) refl g
-  where
-    go : (first_listed v es ≡ Some l → (f : Listed) × (IsListed f es × ((f.node ≡ v) × (f.label ≡ l)))) → (b : Bool) → (e.node == v) ≡ b
-        → cond b (Some e.label) (first_listed v es) ≡ Some l → (f : Listed) × (IsListed f (e ∷ es) × ((f.node ≡ v) × (f.label ≡ l)))
-    go ih true n k = (e, (inl refl, (eqb-true e.node v n, same refl k)))
-    go ih false n k = let r = ih k in (r.0, (inr r.1.0, r.1.1))
+first_is_listed v (e ∷ es) l g =
+    cond_both (e.node == v) (Some e.label) (first_listed v es) (λ z. z ≡ Some l → (f : Listed) × (IsListed f (e ∷ es) × ((f.node ≡ v) × (f.label ≡ l))))
+    (λ n k. (e, (inl refl, (eqb-true e.node v n, same_value refl k)))) (λ _ k. (let r = first_is_listed v es l k in (r.0, (inr r.1.0, r.1.1)))) g
 
 pub laws_of : (m : Network) → IsSound m → (p : Parts) → IsChecked m p → TableLaws m (tables p)
 laws_of m s p h = record {
@@ -235,7 +205,10 @@ laws_of m s p h = record {
   records = h k6;
   listed_label = labelled;
   home_label = (h k7).home;
-  listed_entry = λ u v l i g. listed_entry u v l ((tables p).landmark u) refl i g;
+  listed_entry = λ u v l i g. elim (cases_Bool ((tables p).landmark u)) [
+    | inl n ↦ absurd (not_none g (ap (first_listed v) ((h k8).landmarks u n)))
+    | inr n ↦ is_there ((tables p).entry v u) (((h k8).exact u v i n).0 (some_is g))
+  ];
   entry_listed = λ u v e i n g. is_there ((tables p).listed u v) (((h k8).exact u v i n).1 (some_is g));
   homes = λ v q i g. is_there ((tables p).home v) (((h k8).homes v i).1 (some_is g));
 }
@@ -245,10 +218,6 @@ laws_of m s p h = record {
         let e = first_is_listed v (directory_at p u) l g in
         let k = (h k7).listed u e.0 e.1.0 (subst (λ z. IsSome ((tables p).entry z u)) (sym e.1.1.0) i) in
         subst (λ z. IsLabelIn m (tables p) u z l) e.1.1.0 (subst (λ z. IsLabelIn m (tables p) u e.0.node z) e.1.1.1 k)
-
-    listed_entry : (u v : ℕ) (l : Label) (b : Bool) → (tables p).landmark u ≡ b → u < m.nodes → (tables p).listed u v ≡ Some l → (e : Entry) × ((tables p).entry v u ≡ Some e)
-    listed_entry u v l true n i g = absurd (none_listed p u v l ((h k8).landmarks u n) g)
-    listed_entry u v l false n i g = is_there ((tables p).entry v u) (((h k8).exact u v i n).0 (some_is g))
 
 -- The law.
 pub checked_serves : (m : Network) → IsSound m → (p : Parts) → IsChecked m p → Serves m (tables p)

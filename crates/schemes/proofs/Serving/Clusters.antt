@@ -1,5 +1,5 @@
 -- What the first five checks say of entries: they are the landmarks' trees and the clusters, and the nearest landmarks are right.
-use Rattle.std.proofs.Common.{◌≡◌, ℕ, suc, ◌≤◌, ◌<◌, ◌⊎◌, inl, inr, true, false, refl, subst, arith}
+use Rattle.std.proofs.Common.{◌≡◌, ℕ, suc, ◌≤◌, ◌<◌, ◌⊎◌, inl, inr, true, false, subst, arith}
 use Rattle.std.specs.Prelude.{Some, None, IsSome, ◌↔◌}
 use Rattle.landmarks.specs.declared.near.Near.{Near}
 use Rattle.graph_edits.specs.Edges.{Network}
@@ -47,11 +47,11 @@ module _ (m : Network) (t : Tables) (h : Distances m t) where
       let at = h.nearest.there x q g in (
         at.0,
         (
-          subst (IsShortest m q.landmark x) at.1.1.1 (exact m t h x q.landmark at.1.0 (t.landmark q.landmark) refl at.1.1.0),
+          subst (IsShortest m q.landmark x) at.1.1.1 (exact m t h x q.landmark at.1.0 at.1.1.0),
           λ a y i l s. (
               let o = h.own a i in
               let f = reach m t h a x a y o.0 l o.1.0 s.walk in
-              let sf = exact m t h x a f.0 (t.landmark a) refl f.1.0 in
+              let sf = exact m t h x a f.0 f.1.0 in
               let d : f.0.distance ≡ y = (let u = sf.least y s.walk in let v = s.least f.0.distance sf.walk in omega (arith, u, v)) in
               subst (λ z. (q.distance < z) ⊎ ((q.distance ≡ z) × (q.landmark ≤ a))) d (h.nearest.least x a q f.0 g l f.1.0)),
         ),

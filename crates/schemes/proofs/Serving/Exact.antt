@@ -1,6 +1,7 @@
 -- What the rules say of distances: the entries for a landmark are exact, and so are those of a cluster.
-use Rattle.std.proofs.Common.{◌≡◌, ℕ, zero, suc, ◌+◌, ◌≤◌, ◌<◌, ◌⊎◌, inl, inr, Bool, true, false, sym, refl, ap, subst, ◌∙◌, arith}
+use Rattle.std.proofs.Common.{◌≡◌, ℕ, zero, suc, ◌+◌, ◌≤◌, ◌<◌, ◌⊎◌, inl, inr, true, sym, refl, ap, subst, ◌∙◌, arith}
 use Rattle.std.specs.Prelude.{Option, Some, None}
+use Rattle.std.proofs.lemmas.Bool.{both_ways, cases_Bool}
 use Rattle.schemes.specs.Entry.{Entry}
 use Rattle.landmarks.specs.declared.near.Near.{Near}
 use Rattle.graph_edits.specs.Edges.{Network, IsSound, weight_in}
@@ -20,9 +21,6 @@ pub record Distances (m : Network) (t : Tables) : Type 0 where
   pub strict : IsStrict t
   pub nearest : IsNearestThere t
 
-not_both : {b : Bool} → b ≡ true → b ≡ false → ⊥
-not_both p q = cc
-
 module _ (m : Network) (t : Tables) (h : Distances m t) where
   -- from a node with an entry for a landmark, every walk leads to nodes with entries that are no farther than the walk is long
   pub reach : (u v r x : ℕ) (e : Entry) → t.landmark r ≡ true → t.entry u r ≡ Some e → Walk m u v x → (f : Entry) × ((t.entry v r ≡ Some f) × (f.distance ≤ e.distance + x))
@@ -30,7 +28,7 @@ module _ (m : Network) (t : Tables) (h : Distances m t) where
   reach u v r x e l g (go _ w _ a y s rest) =
       elim (h.closed u w r a e g s) [
         | inl k ↦ (let f = reach w v r y k.0 l k.1.0 rest in (f.0, (f.1.0, omega (arith, k.1.1, f.1.1))))
-        | inr k ↦ absurd (not_both l k.1.0)
+        | inr k ↦ absurd (both_ways (t.landmark r) k.1.0 l)
       ]
 
   some_nearest : (v a : ℕ) (e : Entry) (o : Option Near) → t.nearest v ≡ o → t.landmark a ≡ true → t.entry v a ≡ Some e → (q : Near) × ((t.nearest v ≡ Some q) × (q.distance ≤ e.distance))
@@ -83,21 +81,16 @@ module _ (m : Network) (t : Tables) (h : Distances m t) where
   ]
 
   -- entries are exact
-  pub exact : (x r : ℕ) (e : Entry) (b : Bool) → t.landmark r ≡ b → t.entry x r ≡ Some e → IsShortest m r x e.distance
-  exact x r e true l g = record {
+  pub exact : (x r : ℕ) (e : Entry) → t.entry x r ≡ Some e → IsShortest m r x e.distance
+  exact x r e g = record {
     walk = real (suc e.distance) x r e (omega arith) g;
     least = λ y w.
         let o = h.own r (h.inside x r e g) in
-        let f = reach r x r y o.0 l o.1.0 w in
-        let s = ap (λ (z : Entry). z.distance) (same_value g f.1.0) in
-        omega (arith, f.1.1, o.1.1.0, s);
-  }
-  exact x r e false l g = record {
-    walk = real (suc e.distance) x r e (omega arith) g;
-    least = λ y w.
-        let o = h.own r (h.inside x r e g) in
-        elim (close r x r y o.0 o.1.0 w) [
-          | inl f ↦ (let s = ap (λ (z : Entry). z.distance) (same_value g f.1.0) in omega (arith, f.1.1, o.1.1.0, s))
-          | inr q ↦ (let s = h.strict x r e q.0 l g q.1.0 in omega (arith, q.1.1, o.1.1.0, s))
+        elim (cases_Bool (t.landmark r)) [
+          | inl l ↦ (let f = reach r x r y o.0 l o.1.0 w in let s = ap (λ (z : Entry). z.distance) (same_value g f.1.0) in omega (arith, f.1.1, o.1.1.0, s))
+          | inr l ↦ elim (close r x r y o.0 o.1.0 w) [
+            | inl f ↦ (let s = ap (λ (z : Entry). z.distance) (same_value g f.1.0) in omega (arith, f.1.1, o.1.1.0, s))
+            | inr q ↦ (let s = h.strict x r e q.0 l g q.1.0 in omega (arith, q.1.1, o.1.1.0, s))
+          ]
         ];
   }

@@ -1,8 +1,8 @@
 -- What a move says.
-use Rattle.std.proofs.Common.{◌≡◌, ℕ, zero, suc, ◌<◌, ◌==◌, nat_lt, Bool, true, false, cond, sym, refl, ap, subst, ◌∙◌, arith, List, [], ◌∷◌, map}
-use Rattle.std.specs.Prelude.{Option, Some, None, Result, Ok, Err, slice_get}
-use Rattle.std.specs.Option.{option_map}
-use Rattle.std.proofs.lemmas.Bool.Decides.{nat_tests}
+use Rattle.std.proofs.Common.{◌≡◌, ℕ, ◌<◌, ◌==◌, nat_lt, Bool, true, false, cond, sym, refl, ap, subst, ◌∙◌, arith, List, [], ◌∷◌, map}
+use Rattle.std.specs.Prelude.{Option, Some, None, Result, Ok, Err, slice_get, option_map}
+use Rattle.std.proofs.lemmas.Bool.{eqb-false, ltb-true}
+use Rattle.std.proofs.lemmas.Option.{slice_get-map}
 use Rattle.graph_edits.specs.Edges.{Network, neighbours_of}
 use Rattle.heavy_labels.specs.Numbering.{Step, arrived, port, no_parent, no_light, step}
 use Rattle.heavy_labels.specs.Stepped.{record_of}
@@ -14,27 +14,22 @@ use Rattle.schemes.specs.declared.packet.Refused.{Refused}
 use Rattle.schemes.specs.declared.packet.Refused.TheVariants.{NoNode, Stray, Spent}
 use Rattle.schemes.specs.Tables.{Tables}
 use Rattle.schemes.specs.Service.{node_step, move_at, move_by, forward_over, one_less, Carries, LeadAlong}
+use Rattle.schemes.proofs.Basics.Options.{same_ok, ok_not_err}
 use Rattle.schemes.proofs.Serving.StepsAsMoves.{Ports, Passes}
-
-err_not_ok : {X : Type 0} {e : Refused} {w : Move} → Err e ≡ Ok w → X
-err_not_ok {X} {e} {w} h = absurd (bad e w h)
-  where
-    bad : (e : Refused) (w : Move) → (let x : Result Move Refused = Err e in x) ≡ Ok w → ⊥
-    bad e w h = cc
 
 passes : (b : Bool) (x : Result Move Refused) (e : Refused) (w : Move) → cond b x (Err e) ≡ Ok w → (b ≡ true) × (x ≡ Ok w)
 passes true x e w h = (refl, h)
-passes false x e w h = err_not_ok h
+passes false x e w h = absurd (ok_not_err h refl)
 
 not_passed : (b : Bool) (x : Result Move Refused) (e : Refused) (w : Move) → cond b (Err e) x ≡ Ok w → (b ≡ false) × (x ≡ Ok w)
 not_passed false x e w h = (refl, h)
-not_passed true x e w h = err_not_ok h
+not_passed true x e w h = absurd (ok_not_err h refl)
 
 pub delivered_not_forward : {X : Type 0} (q y : ℕ) (left : Packet) (o : Result Move Refused) → o ≡ Ok Delivered → o ≡ Ok (Forward q y left) → X
-delivered_not_forward q y left o e f = absurd (bad (sym e ∙ f))
+delivered_not_forward q y left o e f = absurd (apart (same_ok e f))
   where
-    bad : (let x : Result Move Refused = Ok Delivered in x) ≡ Ok (Forward q y left) → ⊥
-    bad h = cc
+    apart : Delivered ≡ Forward q y left → ⊥
+    apart g = cc
 
 -- what a node says that sends a packet on
 pub record IsForward (t : Tables) (x : ℕ) (k : Packet) (q y : ℕ) (left : Packet) : Type 0 where
@@ -45,37 +40,35 @@ pub record IsForward (t : Tables) (x : ℕ) (k : Packet) (q y : ℕ) (left : Pac
   pub less : left ≡ one_less k
 
 forward_by_port : (t : Tables) (x : ℕ) (k : Packet) (q y : ℕ) (left : Packet) (p : ℕ) (o : Option ℕ) → t.over x p ≡ o → forward_over k p o ≡ Ok (Forward q y left) → x < t.nodes → k.hops_left < t.nodes → IsForward t x k q y left
-forward_by_port t x k q y left p None g h i l = err_not_ok h
+forward_by_port t x k q y left p None g h i l = absurd (ok_not_err h refl)
 forward_by_port t x k q y left p (Some z) g h i l =
     let n = not_passed (k.hops_left == 0) (Ok (Forward p z (one_less k))) Spent (Forward q y left) h in
-    let same : Forward p z (one_less k) ≡ Forward q y left = (let m = n.1 in cc) in
+    let same : Forward p z (one_less k) ≡ Forward q y left = same_ok refl n.1 in
     let a : p ≡ q = cc in
     let b : z ≡ y = cc in
     let c : one_less k ≡ left = cc in
-    record { inside = i; below = l; behind = ap (t.over x) (sym a) ∙ g ∙ ap (λ w. Some w) b; some = (let f = n.0 in grind (arith, nat_tests)); less = sym c }
+    record { inside = i; below = l; behind = ap (t.over x) (sym a) ∙ g ∙ ap (λ w. Some w) b; some = (let f = eqb-false k.hops_left 0 n.0 in omega (arith, f)); less = sym c }
 
 forward_by_step : (t : Tables) (x : ℕ) (k : Packet) (q y : ℕ) (left : Packet) (s : Step) → move_by t x k s ≡ Ok (Forward q y left) → x < t.nodes → k.hops_left < t.nodes → IsForward t x k q y left
 forward_by_step t x k q y left arrived h i l = delivered_not_forward q y left (Ok Delivered) refl (passes (x == k.destination) (Ok Delivered) Stray (Forward q y left) h).1
 forward_by_step t x k q y left (port p) h i l = forward_by_port t x k q y left p (t.over x p) refl h i l
-forward_by_step t x k q y left no_parent h i l = err_not_ok h
-forward_by_step t x k q y left no_light h i l = err_not_ok h
+forward_by_step t x k q y left no_parent h i l = absurd (ok_not_err h refl)
+forward_by_step t x k q y left no_light h i l = absurd (ok_not_err h refl)
 
 forward_by_entry : (t : Tables) (x : ℕ) (k : Packet) (q y : ℕ) (left : Packet) (o : Option Entry) → move_at t x k o ≡ Ok (Forward q y left) → x < t.nodes → k.hops_left < t.nodes → IsForward t x k q y left
-forward_by_entry t x k q y left None h i l = err_not_ok h
+forward_by_entry t x k q y left None h i l = absurd (ok_not_err h refl)
 forward_by_entry t x k q y left (Some e) h i l = forward_by_step t x k q y left (step (record_of e.tree_record) k.label) h i l
 
 pub forward_is : (t : Tables) (x : ℕ) (k : Packet) (q y : ℕ) (left : Packet) → node_step t x k ≡ Ok (Forward q y left) → IsForward t x k q y left
 forward_is t x k q y left h =
     let a = passes (nat_lt x t.nodes) (cond (nat_lt k.hops_left t.nodes) (move_at t x k (t.entry x k.root)) (Err Stray)) NoNode (Forward q y left) h in
     let b = passes (nat_lt k.hops_left t.nodes) (move_at t x k (t.entry x k.root)) Stray (Forward q y left) a.1 in
-    forward_by_entry t x k q y left (t.entry x k.root) b.1 (let e = a.0 in grind (arith, nat_tests)) (let e = b.0 in grind (arith, nat_tests))
+    forward_by_entry t x k q y left (t.entry x k.root) b.1 (ltb-true x t.nodes a.0) (ltb-true k.hops_left t.nodes b.0)
 
 -- ---- the ports of a way
 
 pub get_map : (f : ℕ × ℕ → ℕ) (xs : List (ℕ × ℕ)) (i : ℕ) → slice_get (map f xs) i ≡ option_map f (slice_get xs i)
-get_map f [] i = refl
-get_map f (x ∷ xs) zero = refl
-get_map f (x ∷ xs) (suc i) = get_map f xs i
+get_map f xs i = slice_get-map f xs i
 
 -- the ports by which the nodes of the list pass a packet on: they lead along it in the network
 pub record Ported (m : Network) (t : Tables) (x : ℕ) (trip : List ℕ) (k : Packet) : Type 0 where

@@ -1,6 +1,7 @@
 -- The laws of schemes, over the edge map's walks.
-use Rattle.std.proofs.Common.{◌≡◌, ℕ, ◌<◌, inl, inr, Bool, true, false, refl, sym, ap, subst, ◌∙◌, arith}
+use Rattle.std.proofs.Common.{◌≡◌, ℕ, ◌<◌, inl, inr, refl, sym, ap, subst, ◌∙◌, arith}
 use Rattle.std.specs.Prelude.{Option, Some, None, IsSome}
+use Rattle.std.proofs.lemmas.Bool.{both_ways, cases_Bool}
 use Rattle.graph_edits.specs.Edges.{Network, IsSound}
 use Rattle.graph_edits.specs.Walks.{IsWalk, walk_length, IsLeast}
 use Rattle.landmarks.specs.declared.near.Near.{Near}
@@ -39,52 +40,39 @@ serves_law m p s h = checked_serves m s p h
 pub exact_law : EntriesAreExact
 exact_law m p s h x r e g =
     let d = distances_of m s p h in
-    least_of m s r x e.distance (d.inside x r e g) (exact m (tables p) d x r e ((tables p).landmark r) refl g)
+    least_of m s r x e.distance (d.inside x r e g) (exact m (tables p) d x r e g)
 
 module _ (m : Network) (t : Tables) (d : Distances m t) where
-  there : (r x : ℕ) (b : Bool) → t.landmark r ≡ b → IsSome (t.entry x r) → IsInTree m t.landmark r x
-  there r x true l g =
+  there : (r x : ℕ) → IsSome (t.entry x r) → IsInTree m t.landmark r x
+  there r x g =
       let e = is_there (t.entry x r) g in
       let i = d.inside x r e.0 e.1 in
-      let w = (landmark_tree m t d r x i l).0 g in
-      let k = walk_of m r x w.0 w.1 in
-      (i, (k.0, (k.1.0, inl l)))
-  there r x false l g =
-      let e = is_there (t.entry x r) g in
-      let i = d.inside x r e.0 e.1 in
-      let w = (cluster m t d r x i l).0 g in
-      let k = walk_of m r x w.0 w.1.0 in (
-        i,
-        (
-          k.0,
+      elim (cases_Bool (t.landmark r)) [
+        | inl l ↦ (let w = (landmark_tree m t d r x i l).0 g in let k = walk_of m r x w.0 w.1 in (i, (k.0, (k.1.0, inl l))))
+        | inr l ↦ (
+            let w = (cluster m t d r x i l).0 g in
+            let k = walk_of m r x w.0 w.1.0 in
+            (i, (k.0, (k.1.0, inr (λ a ys j la v. (let far = w.1.1 a (walk_length m.edges a ys) j la (walk_from m a ys x j d.sound v) in omega (arith, far, k.1.1)))))))
+      ]
+
+  back : (r x : ℕ) → IsInTree m t.landmark r x → IsSome (t.entry x r)
+  back r x h =
+      let n = walk_length m.edges r h.1.0 in
+      let w = walk_from m r h.1.0 x h.0 d.sound h.1.1.0 in
+      elim (cases_Bool (t.landmark r)) [
+        | inl l ↦ (landmark_tree m t d r x h.0 l).1 (n, w)
+        | inr l ↦ (cluster m t d r x h.0 l).1 (
+          n,
           (
-            k.1.0,
-            inr (λ a ys j la v.
-                (let far = w.1.1 a (walk_length m.edges a ys) j la (walk_from m a ys x j d.sound v) in omega (arith, far, k.1.1))),
+            w,
+            λ a y j la v.
+                (let k = walk_of m a x y v in elim h.1.1.1 [
+                  | inl bad ↦ absurd (both_ways (t.landmark r) l bad)
+                  | inr near ↦ (let far = near a k.0 j la k.1.0 in omega (arith, far, k.1.1))
+                ]),
           ),
-        ),
-      )
-
-  not_both : {b : Bool} → b ≡ true → b ≡ false → ⊥
-  not_both p q = cc
-
-  back : (r x : ℕ) (b : Bool) → t.landmark r ≡ b → IsInTree m t.landmark r x → IsSome (t.entry x r)
-  back r x true l h =
-      let w = walk_from m r h.1.0 x h.0 d.sound h.1.1.0 in
-      (landmark_tree m t d r x h.0 l).1 (walk_length m.edges r h.1.0, w)
-  back r x false l h =
-      let w = walk_from m r h.1.0 x h.0 d.sound h.1.1.0 in
-      (cluster m t d r x h.0 l).1 (
-        walk_length m.edges r h.1.0,
-        (
-          w,
-          λ a y j la v.
-              (let k = walk_of m a x y v in elim h.1.1.1 [
-                | inl bad ↦ absurd (not_both bad l)
-                | inr near ↦ (let far = near a k.0 j la k.1.0 in omega (arith, far, k.1.1))
-              ]),
-        ),
-      )
+        )
+      ]
 
   near_is_right : (x : ℕ) (o : Option Near) → t.nearest x ≡ o → NearestIsRight m t.landmark x o
   near_is_right x None g = λ a ys j la v. nearest_none m t d x g a (walk_length m.edges a ys) j la (walk_from m a ys x j d.sound v)
@@ -99,7 +87,7 @@ module _ (m : Network) (t : Tables) (d : Distances m t) where
       }
 
 pub trees_law : EntriesAreTrees
-trees_law m p s h x r = (let d = distances_of m s p h in (there m (tables p) d r x ((tables p).landmark r) refl, back m (tables p) d r x ((tables p).landmark r) refl))
+trees_law m p s h x r = (let d = distances_of m s p h in (there m (tables p) d r x, back m (tables p) d r x))
 
 pub nearest_law : NearestAreRight
 nearest_law m p s h x = near_is_right m (tables p) (distances_of m s p h) x ((tables p).nearest x) refl

@@ -1,11 +1,12 @@
 -- From steps along a way in a tree to the moves of a packet.
-use Rattle.std.proofs.Common.{◌≡◌, ℕ, ◌+◌, ◌≤◌, ◌<◌, inl, inr, Bool, true, false, sym, refl, ap, ◌∙◌, arith, List, [], ◌∷◌, map, length, ◌==◌, add-one}
-use Rattle.std.specs.Prelude.{Option, Some, None, Ok, slice_get}
+use Rattle.std.proofs.Common.{◌≡◌, ℕ, ◌≤◌, ◌<◌, inl, inr, sym, refl, ap, ◌∙◌, arith, List, [], ◌∷◌, map, length, ◌==◌, add-one}
+use Rattle.std.specs.Prelude.{Some, Ok, slice_get}
 use Rattle.std.proofs.lemmas.Bool.Decides.{nat_tests}
 use Rattle.std.proofs.lemmas.Bool.{lt-ltb, eqb-true}
 use Rattle.heavy_labels.specs.Numbering.{Place, arrived, port, step, Follows, Joins}
 use Rattle.heavy_labels.specs.Stepped.{record_of}
 use Rattle.schemes.proofs.Basics.Options.{not_none}
+use Rattle.schemes.proofs.Basics.Searches.{found_split}
 use Rattle.schemes.specs.Entry.{Entry}
 use Rattle.graph_edits.specs.Edges.{Network}
 use Rattle.schemes.specs.Ports.{index_of, neighbours, port_to}
@@ -15,22 +16,12 @@ use Rattle.schemes.specs.declared.packet.Packet.{Packet}
 use Rattle.schemes.specs.declared.packet.Move.TheVariants.{Delivered, Forward}
 use Rattle.schemes.specs.Service.{node_step, one_less}
 
-some_same : {X : Type 0} {x y : X} → Some x ≡ Some y → x ≡ y
-some_same e = cc
-
-get_next : (x y q k : ℕ) (xs : List ℕ) → k + 1 ≡ q → slice_get xs k ≡ Some y → slice_get (x ∷ xs) q ≡ Some y
-get_next x y q k xs e h = rw (← e) (rw add-one h)
-
 pub index_get : (y q : ℕ) (xs : List ℕ) → index_of y xs ≡ Some q → slice_get xs q ≡ Some y
 index_get y q [] e = absurd (not_none e refl)
-index_get y q (x ∷ xs) e = go (λ k g. index_get y k xs g) (x == y) refl (index_of y xs) refl
-  where
-    go : ((k : ℕ) → index_of y xs ≡ Some k → slice_get xs k ≡ Some y) → (b : Bool) → (x == y) ≡ b → (o : Option ℕ) → index_of y xs ≡ o → slice_get (x ∷ xs) q ≡ Some y
-    go ih true f o g =
-        let z : 0 ≡ q = some_same (rw f at e) in
-        rw (← z) (ap (λ w. Some w) (eqb-true x y f))
-    go ih false f None g = absurd (not_none (rw (f, g) at e) refl)
-    go ih false f (Some k) g = get_next x y q k xs (some_same (rw (f, g) at e)) (ih k g)
+index_get y q (x ∷ xs) e = elim (found_split (x == y) (index_of y xs) q e) [
+  | inl k ↦ rw k.1 (ap (λ w. Some w) (eqb-true x y k.0))
+  | inr k ↦ (let r = k.1 in rw (r.1.1, add-one r.0) (index_get y r.0 xs r.1.0))
+]
 
 -- the place stands for what the tables say of its node
 pub record IsAtPlace (m : Network) (t : Tables) (r : ℕ) (a : Place) : Type 0 where
@@ -46,10 +37,10 @@ abbrev pub AreAtPlaces : Network → Tables → ℕ → List Place → Type 0
 AreAtPlaces m t r [] = Unit {0}
 AreAtPlaces m t r (a ∷ rest) = IsAtPlace m t r a × AreAtPlaces m t r rest
 
-up_at : (m : Network) (x y : ℕ) (e : Entry) → e.parent ≡ Some y → up_port m x (Some e) ≡ port_to m x y
+pub up_at : (m : Network) (x y : ℕ) (e : Entry) → e.parent ≡ Some y → up_port m x (Some e) ≡ port_to m x y
 up_at m x y e h = rw h refl
 
-down_at : (m : Network) (x y : ℕ) (e : Entry) → e.parent ≡ Some y → down_port m x (Some e) ≡ port_to m y x
+pub down_at : (m : Network) (x y : ℕ) (e : Entry) → e.parent ≡ Some y → down_port m x (Some e) ≡ port_to m y x
 down_at m x y e h = rw h refl
 
 -- either way the port is that of the next node

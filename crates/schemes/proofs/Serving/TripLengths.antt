@@ -1,7 +1,7 @@
 -- How long the way in a tree is: the distances of its ends from the root, less twice that of the ancestor where it turns.
-use Rattle.std.proofs.Common.{◌≡◌, ℕ, ◌+◌, ◌-◌, inl, inr, sym, refl, ap, ◌∙◌, arith, List, [], ◌∷◌, ◌++◌, reverse}
+use Rattle.std.proofs.Common.{◌≡◌, ℕ, ◌+◌, ◌-◌, inl, inr, sym, refl, ap, ◌∙◌, arith, List, [], ◌∷◌, ◌++◌, map, reverse}
 use Rattle.std.specs.Prelude.{Some}
-use Rattle.std.proofs.lemmas.List.{reverse-append}
+use Rattle.std.proofs.lemmas.List.{map-append, reverse-append}
 use Rattle.heavy_labels.specs.Label.{Label}
 use Rattle.heavy_labels.specs.Numbering.{Place, Follows, Joins}
 use Rattle.graph_edits.specs.Edges.{Network, weight_in}
@@ -22,12 +22,7 @@ head_or [] p = p
 head_or (a ∷ rest) p = a
 
 abbrev pub nodes_of : List Place → List ℕ
-nodes_of [] = []
-nodes_of (a ∷ rest) = a.node ∷ nodes_of rest
-
-pub nodes_of-append : (xs ys : List Place) → nodes_of (xs ++ ys) ≡ nodes_of xs ++ nodes_of ys
-nodes_of-append [] ys = refl
-nodes_of-append (a ∷ xs) ys = ap (λ z. a.node ∷ z) (nodes_of-append xs ys)
+nodes_of xs = map (λ a. a.node) xs
 
 module _ (m : Network) (t : Tables) (r : ℕ) (tight : HasParents m t) where
   abbrev pub dist : Place → ℕ
@@ -60,22 +55,12 @@ module _ (m : Network) (t : Tables) (r : ℕ) (tight : HasParents m t) where
       → (y : ℕ) × (IsTrail m at.node (nodes_of (at ∷ reverse down)) (head_or down at).node y × (y + dist at ≡ dist (head_or down at)))
   fall [] at placed ch = (0, ((refl, (refl, refl)), omega arith))
   fall (a ∷ down) at placed ch =
-      let ih = fall down at placed.1 (rest_chained a (down ++ at ∷ []) ch) in
-      let g = edge a (head_or down at) placed.0 (head_placed down at placed.1) (first_link a down at ch) in
-      let turned : nodes_of (at ∷ reverse (a ∷ down)) ≡ nodes_of (at ∷ reverse down) ++ a.node ∷ [] = ap (λ z. nodes_of (at ∷ z)) (reverse-append (a ∷ []) down) ∙ nodes_of-append (at ∷ reverse down) (a ∷ []) in
+      let chained = (elim down as (λ z. Chained (a ∷ (z ++ at ∷ [])) → (a.parent ≡ Some (head_or z at).node) × Chained (z ++ at ∷ [])) [ [] ↦ λ c. c | b ∷ z ↦ λ c. c ]) ch in
+      let head = (elim down as (λ z. AreAtPlaces m t r (z ++ at ∷ []) → IsAtPlace m t r (head_or z at)) [ [] ↦ λ s. s.0 | b ∷ z ↦ λ s. s.0 ]) placed.1 in
+      let ih = fall down at placed.1 chained.1 in
+      let g = edge a (head_or down at) placed.0 head chained.0 in
+      let turned : nodes_of (at ∷ reverse (a ∷ down)) ≡ nodes_of (at ∷ reverse down) ++ a.node ∷ [] = ap (λ z. nodes_of (at ∷ z)) (reverse-append (a ∷ []) down) ∙ map-append (λ (z : Place). z.node) (at ∷ reverse down) (a ∷ []) in
       (ih.0 + g.0, (rw turned (trail_snoc at.node (head_or down at).node a.node ih.0 g.0 (nodes_of (at ∷ reverse down)) ih.1.0 g.1.0), omega (arith, g.1.1, ih.1.1)))
-    where
-      rest_chained : (a : Place) (xs : List Place) → Chained (a ∷ xs) → Chained xs
-      rest_chained a [] c = tt
-      rest_chained a (b ∷ xs) c = c.1
-
-      head_placed : (down : List Place) (at : Place) → AreAtPlaces m t r (down ++ at ∷ []) → IsAtPlace m t r (head_or down at)
-      head_placed [] at s = s.0
-      head_placed (b ∷ down) at s = s.0
-
-      first_link : (a : Place) (down : List Place) (at : Place) → Chained (a ∷ (down ++ at ∷ [])) → a.parent ≡ Some (head_or down at).node
-      first_link a [] at c = c.0
-      first_link a (b ∷ down) at c = c.0
 
   -- up to `at` and down again: no longer than the distances of both ends from the root together, and where one end is
   -- the root, just the distance of the other
@@ -88,19 +73,16 @@ module _ (m : Network) (t : Tables) (r : ℕ) (tight : HasParents m t) where
       (c.0, (c.1.0, omega (arith, c.1.1, f.1.1)))
 
   -- the gap between the distances of two numbers, the one w above the other
-  gap_up : (a b w : ℕ) → a ≡ b + w → (a - b) + (b - a) ≡ w
-  gap_up a b w e = omega (arith, e)
-
-  gap_down : (a b w : ℕ) → a ≡ b + w → (b - a) + (a - b) ≡ w
-  gap_down a b w e = omega (arith, e)
+  gaps : (a b w : ℕ) → a ≡ b + w → ((a - b) + (b - a) ≡ w) × ((b - a) + (a - b) ≡ w)
+  gaps a b w e = (omega (arith, e), omega (arith, e))
 
   hop_measured : (a b : Place) (q : ℕ) → IsAtPlace m t r a → IsAtPlace m t r b → Joins a b q → weight_in m a.node b.node ≡ Some (gap t r a.node b.node)
   hop_measured a b q sa sb (inl j) =
       let g = edge a b sa sb j.0 in
-      symmetric m a.node b.node ∙ g.1.0 ∙ ap (λ z. Some z) (sym (gap_up (dist a) (dist b) g.0 g.1.1))
+      symmetric m a.node b.node ∙ g.1.0 ∙ ap (λ z. Some z) (sym (gaps (dist a) (dist b) g.0 g.1.1).0)
   hop_measured a b q sa sb (inr j) =
       let g = edge b a sb sa j.0 in
-      g.1.0 ∙ ap (λ z. Some z) (sym (gap_down (dist b) (dist a) g.0 g.1.1))
+      g.1.0 ∙ ap (λ z. Some z) (sym (gaps (dist b) (dist a) g.0 g.1.1).1)
 
   -- each hop of what a label's steps follow is as long as the distances of its ends differ
   pub measured : (a : Place) (rest : List Place) (l : Label) → AreAtPlaces m t r (a ∷ rest) → Follows l (a ∷ rest) → AreMeasured m t r a.node (nodes_of rest)

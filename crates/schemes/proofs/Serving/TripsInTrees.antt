@@ -1,7 +1,7 @@
 -- A packet in the tree of one root: from any member to any other by the other's label.
-use Rattle.std.proofs.Common.{◌≡◌, ℕ, suc, ◌+◌, ◌-◌, ◌≤◌, ◌<◌, sym, refl, ap, subst, ◌∙◌, arith, List, [], ◌∷◌, ◌++◌, map, length, length-append, reverse}
+use Rattle.std.proofs.Common.{◌≡◌, ℕ, ◌+◌, ◌-◌, ◌≤◌, ◌<◌, sym, refl, ap, ap₂, subst, ◌∙◌, arith, List, [], ◌∷◌, ◌++◌, length, length-append, reverse}
 use Rattle.std.specs.Prelude.{Some}
-use Rattle.std.proofs.lemmas.List.{reverse-append, length-reverse}
+use Rattle.std.proofs.lemmas.List.{length-map, reverse-append, length-reverse}
 use Rattle.route_tree.specs.Rose.{count, tree_size}
 use Rattle.heavy_labels.specs.Label.{Label}
 use Rattle.heavy_labels.specs.Numbering.{Line, Place, Follows, Way}
@@ -62,17 +62,6 @@ pub head_is : (p : Place) (q : Line) (up : List Place) (at : Place) (above : Lin
 head_is p q [] at above e = cc
 head_is p q (a ∷ up) at above e = cc
 
-nodes_map : (xs : List Place) → nodes_of xs ≡ map (λ a. a.node) xs
-nodes_map [] = refl
-nodes_map (a ∷ xs) = ap (λ z. a.node ∷ z) (nodes_map xs)
-
-nodes_length : (xs : List Place) → length (nodes_of xs) ≡ length xs
-nodes_length [] = refl
-nodes_length (a ∷ xs) = omega (arith, nodes_length xs)
-
-add-one_sym : (n : ℕ) → suc n ≡ n + 1
-add-one_sym n = omega arith
-
 -- the places after the first of a way up to `at` and down again
 abbrev after_head : List Place → Place → List Place → List Place
 after_head [] at down = reverse down
@@ -107,36 +96,31 @@ trip_along m t r tight ports pu pv au av k su sv w few =
     let sdown = placed_left m t r down (at ∷ w.above) s2 in
     let spath = placed_append m t r up (at ∷ reverse down) (placed_left m t r up (at ∷ w.above) s1) (sat, placed_reverse m t r down sdown) in
     let sback = placed_append m t r down (at ∷ []) sdown (sat, tt) in
-    let hu = head_is pu au up at w.above w.from in
-    let hv = head_is pv av down at w.above w.to in
     let way = along m t r tight up at down spath sback c1 c2 in
     let path = up ++ at ∷ reverse down in
     let head = head_or up at in
     let rest = after_head up at down in
     let split = head_and_after up at down in
     let size : length path ≤ k + 1 = omega (arith, length-append up (at ∷ reverse down), length-reverse down, w.short) in
-    let same : length path ≡ length rest + 1 = ap length split ∙ add-one_sym (length rest) in
+    let same : length path ≡ length rest + 1 = (let l = ap (λ (z : List Place). length z) split in omega (arith, l)) in
     let hops : length rest ≤ t.nodes - 1 = omega (arith, size, few, same, ports.nodes) in
     let below : t.nodes - 1 < m.nodes = omega (arith, few, ports.nodes) in
-    let ends : EndsAt path pv.node = ends_after up at (reverse down) pv.node (ends_turned down at pv.node (ap (λ (z : Place). z.node) hv)) in
-    let du : dist m t r tight (head_or up at) ≡ distance_of (t.entry pu.node r) = ap (λ (z : Place). distance_of (t.entry z.node r)) hu in
-    let dv : dist m t r tight (head_or down at) ≡ distance_of (t.entry pv.node r) = ap (λ (z : Place). distance_of (t.entry z.node r)) hv in
-    let un : head.node ≡ pu.node = ap (λ (z : Place). z.node) hu in
-    let vn : (head_or down at).node ≡ pv.node = ap (λ (z : Place). z.node) hv in
+    let tail = head_or down at in
+    let ends : EndsAt path tail.node = ends_after up at (reverse down) tail.node (ends_turned down at tail.node refl) in
     let placed = subst (AreAtPlaces m t r) split spath in
     let follows = subst (Follows pv.label) split w.follows in
-    let walk = trail_walk m head.node head.node (nodes_of rest) (head_or down at).node way.0 (subst (λ z. IsTrail m head.node z (head_or down at).node way.0) (ap nodes_of split) way.1.0) in
-    let named = nodes_map rest in
-    record {
+    let walk = trail_walk m head.node head.node (nodes_of rest) tail.node way.0 (subst (λ z. IsTrail m head.node z tail.node way.0) (ap nodes_of split) way.1.0) in
+    let both : way.0 + (dist m t r tight at + dist m t r tight at) ≡ distance_of (t.entry head.node r) + distance_of (t.entry tail.node r) = way.1.1 in
+    let trip : TreeTrip m t r head.node tail.node pv.label (distance_of (t.entry head.node r) + distance_of (t.entry tail.node r)) = record {
       trip = nodes_of rest;
-      carried = subst (λ z. Passes t pu.node z (packet_by t pv.node r pv.label)) (sym named)
-          (subst (λ z. Passes t z (map (λ b. b.node) rest) (packet_by t pv.node r pv.label)) un
-          (carry m t r ports head rest (packet_by t pv.node r pv.label) placed follows refl (subst (λ z. EndsAt z pv.node) split ends) hops below));
-      walk = subst (λ z. IsWalk m.edges z (nodes_of rest) pv.node) un (subst (IsWalk m.edges head.node (nodes_of rest)) vn walk.1.0);
-      short = (let e : walk_length m.edges pu.node (nodes_of rest) ≡ way.0 = ap (λ z. walk_length m.edges z (nodes_of rest)) (sym un) ∙ walk.1.1 in omega (arith, way.1.1, du, dv, e));
-      few = omega (arith, nodes_length rest, same, size, few);
-      measured = subst (λ z. AreMeasured m t r z (nodes_of rest)) un (measured m t r tight head rest pv.label placed follows);
-    }
+      carried = carry m t r ports head rest (packet_by t tail.node r pv.label) placed follows refl (subst (λ z. EndsAt z tail.node) split ends) hops below;
+      walk = walk.1.0;
+      short = (let e = walk.1.1 in omega (arith, both, e));
+      few = omega (arith, length-map rest (λ (a : Place). a.node), same, size, few);
+      measured = measured m t r tight head rest pv.label placed follows;
+    } in
+    subst (λ (z : Place). TreeTrip m t r z.node pv.node pv.label (distance_of (t.entry z.node r) + distance_of (t.entry pv.node r))) (head_is pu au up at w.above w.from)
+    (subst (λ (z : Place). TreeTrip m t r head.node z.node pv.label (distance_of (t.entry head.node r) + distance_of (t.entry z.node r))) (head_is pv av down at w.above w.to) trip)
 
 -- by the tables, between any two nodes with an entry for r
 pub trip_in_tree : (m : Network) (t : Tables) → Distances m t → Ports m t → HasRecords m t → (r u v : ℕ) (a b : Entry) (l : Label)
@@ -153,16 +137,8 @@ trip_in_tree m t h ports records r u v a b l gu gv label =
     let way = tree_way s (children_ports m t h r s.node s.below fits) (su.place ∷ su.above) (sv.place ∷ sv.above) su.among sv.among in
     let got = trip_along m t r h.tight ports su.place sv.place su.above sv.above (count s.below)
     (placed (su.place ∷ su.above) su.among) (placed (sv.place ∷ sv.above) sv.among) way (omega (arith, small)) in
-    let is : sv.place.label ≡ l = label sv.place sv.above sv.among sv.is in
-    let du : distance_of (t.entry su.place.node r) ≡ a.distance = ap (λ z. distance_of (t.entry z r)) su.is ∙ ap distance_of gu in
-    let dv : distance_of (t.entry sv.place.node r) ≡ b.distance = ap (λ z. distance_of (t.entry z r)) sv.is ∙ ap distance_of gv in
-    let same : walk_length m.edges u got.trip ≡ walk_length m.edges su.place.node got.trip = ap (λ z. walk_length m.edges z got.trip) (sym su.is) in
-    record {
-      trip = got.trip;
-      carried = subst (λ z. Passes t z got.trip (packet_by t v r l)) su.is
-          (subst (λ z. Passes t su.place.node got.trip (packet_by t z r l)) sv.is (subst (λ z. Passes t su.place.node got.trip (packet_by t sv.place.node r z)) is got.carried));
-      walk = subst (λ z. IsWalk m.edges z got.trip v) su.is (subst (IsWalk m.edges su.place.node got.trip) sv.is got.walk);
-      short = omega (arith, got.short, du, dv, same);
-      few = got.few;
-      measured = subst (λ z. AreMeasured m t r z got.trip) su.is got.measured;
-    }
+    let most : distance_of (t.entry su.place.node r) + distance_of (t.entry sv.place.node r) ≡ a.distance + b.distance =
+    ap₂ (λ y z. y + z) (ap (λ z. distance_of (t.entry z r)) su.is ∙ ap distance_of gu) (ap (λ z. distance_of (t.entry z r)) sv.is ∙ ap distance_of gv) in
+    subst (λ z. TreeTrip m t r z v l (a.distance + b.distance)) su.is (subst (λ z. TreeTrip m t r su.place.node z l (a.distance + b.distance)) sv.is
+    (subst (λ z. TreeTrip m t r su.place.node sv.place.node z (a.distance + b.distance)) (label sv.place sv.above sv.among sv.is)
+    (subst (TreeTrip m t r su.place.node sv.place.node sv.place.label) most got)))

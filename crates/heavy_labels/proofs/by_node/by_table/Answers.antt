@@ -1,7 +1,7 @@
 use Rattle.std.proofs.Common.{◌+◌, ◌∙◌, subst, sym, ap, arith}
 use Rattle.std.specs.Prelude.{slice_index}
+use Rattle.std.proofs.lemmas.Bool.{both_ways}
 use Rattle.heavy_labels.specs.ByNode.{AreByNodeTo}
-use Rattle.heavy_labels.proofs.KidSteps.{not_both}
 use Rattle.heavy_labels.proofs.Spots.{node_more, node_none, all_nodes}
 use Rattle.heavy_labels.proofs.by_node.by_table.Goals as goal
 use Rattle.heavy_labels.proofs.by_node.by_table.Goals.{then-is_place_of+in_ok-push, else-is_place_of}
@@ -13,7 +13,7 @@ loop-x-preserved g c = elim c.if-is_place_of.branch [
       (ap (λ v. v.items) w.all-is ∙ w.in_ok-push.ensures.items) c.loop-x.invariant
   | else-is_place_of w ↦
       subst (AreByNodeTo c.args.members.now (c.loop-x.x + 1)) (sym (ap (λ v. v.items) w.all-is))
-      (node_none c.args.members.now c.loop-x.x c.args.places.now c.loop-x.all.items c.requires.places (λ h. not_both (c.is_place_of.ensures.1 h) w.if-is_place_of.false) c.loop-x.invariant)
+      (node_none c.args.members.now c.loop-x.x c.args.places.now c.loop-x.all.items c.requires.places (λ h. both_ways _ w.if-is_place_of.false (c.is_place_of.ensures.1 h)) c.loop-x.invariant)
 ]
 
 pub returns : goal.returns

@@ -1,6 +1,6 @@
 use Rattle.std.proofs.Common.{◌∙◌, ℕ, List, arith, length, ap}
 use Rattle.std.specs.Prelude.{slice_index, is_none, ◌-◌}
-use Rattle.heavy_labels.proofs.KidSteps.{size_at}
+use Rattle.heavy_labels.proofs.BehindThem.{size_at}
 use Rattle.heavy_labels.proofs.FlatSteps.{heavy_fits, port_there, made}
 use Rattle.heavy_labels.proofs.flat.member_with.Goals as goal
 

@@ -16,7 +16,7 @@ returns-clause-numbers g c d =
     let flat = subst (λ n. AreFlat c.args.members.now c.as_slice.result.now c.as_slice-3.result.now c.in_ok-ahead.ahead.items n (map seen c.loop-at.out.items)) (omega arith) c.loop-at.invariant in
     flat_numbers c.args.members.now d c.loop-at.out.items c.requires.members
     (flat_nodes c.args.members.now c.as_slice.result.now c.as_slice-3.result.now c.in_ok-ahead.ahead.items c.loop-at.out.items flat)
-    (flat_listed c.args.members.now c.args.places.now c.in_ok-above.above.items c.in_ok-heavy.heavy.items c.in_ok-ahead.ahead.items c.in_ok-by_node.by_node.items (map seen c.loop-at.out.items) c.requires.members c.requires.places
+    (flat_listed c.args.members.now c.in_ok-above.above.items c.in_ok-heavy.heavy.items c.in_ok-ahead.ahead.items c.in_ok-by_node.by_node.items (map seen c.loop-at.out.items) c.requires.members
     c.in_ok-above.ensures c.in_ok-by_node.ensures
     (subst (λ z. AreHeavy c.args.members.now z c.in_ok-heavy.heavy.items) c.deref-4.ensures.value c.in_ok-heavy.ensures)
     (subst (λ z. AreAheadTo c.args.members.now z (length z) c.in_ok-ahead.ahead.items) c.as_slice-4.ensures.value c.in_ok-ahead.ensures)

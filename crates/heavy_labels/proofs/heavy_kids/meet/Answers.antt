@@ -1,4 +1,4 @@
-use Rattle.std.proofs.Common.{refl, arith}
+use Rattle.std.proofs.Common.{arith}
 use Rattle.heavy_labels.proofs.HeavySteps.{turn_inside, turn_root, turn_taken, turn_kept, parent_there}
 use Rattle.heavy_labels.proofs.heavy_kids.meet.Goals as goal
 
@@ -27,10 +27,10 @@ bounds-heavy-parent-then-sizes-place c =
 
 pub returns-then-sizes-place : goal.returns-then-sizes-place
 returns-then-sizes-place c =
-    turn_taken _ _ _ _ _ c.args.j c.requires.measured c.requires.heavy c.requires.there (omega arith) _
-    (let e = c.heavy_size.ensures in let t = c.if-sizes-place.true in omega (arith, e, t)) refl
+    turn_taken _ _ _ _ _ c.args.j c.requires.measured c.requires.heavy c.requires.there (omega arith)
+    (let e = c.heavy_size.ensures in let t = c.if-sizes-place.true in omega (arith, e, t))
 
 pub returns-else-sizes-place : goal.returns-else-sizes-place
 returns-else-sizes-place c =
-    turn_kept _ _ _ _ _ c.args.j c.requires.measured c.requires.heavy c.requires.there (omega arith) _
-    (let e = c.heavy_size.ensures in let t = c.if-sizes-place.false in omega (arith, e, t)) refl
+    turn_kept _ _ _ _ _ c.args.j c.requires.measured c.requires.heavy c.requires.there (omega arith)
+    (let e = c.heavy_size.ensures in let t = c.if-sizes-place.false in omega (arith, e, t))

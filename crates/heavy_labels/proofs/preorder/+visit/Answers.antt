@@ -32,5 +32,5 @@ loop-i-preserved g t c =
     let l = c.loop-i.invariant in
     let ports = c.child_lights-ports.ensures ∙ ap (lights_at (eqb c.loop-i.i 0) c.args.lights.now) c.down.ensures in
     let more = c.in_ok-visit.ensures ∙ ap (λ z. map seen c.loop-i.out.items ++ tree_briefs c.index-children-i.result c.loop-i.next z) ports in
-    let next = left_next _ _ _ _ _ _ _ _ _ c.index-children-i.result l (omega arith) c.index-children-i.is more in
+    let next = left_next _ _ _ _ _ _ _ _ c.index-children-i.result l (omega arith) c.index-children-i.is _ more in
     subst (λ z. Left (tree_size c.args.twig.now) c.args.first c.args.lights.now c.children-children.result.now (c.loop-i.i + 1) (c.loop-i.next + z) (map seen c.visit.new.out.items) (map seen c.args.out.now.items ++ tree_briefs c.args.twig.now c.args.first c.args.lights.now)) (sym c.size.ensures) next

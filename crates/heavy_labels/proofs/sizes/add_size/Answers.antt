@@ -1,4 +1,4 @@
-use Rattle.std.proofs.Common.{refl, arith}
+use Rattle.std.proofs.Common.{arith}
 use Rattle.std.specs.Prelude.{slice_index}
 use Rattle.route_tree.proofs.Waiting.{no_member}
 use Rattle.heavy_labels.proofs.SizeSteps.{sizes_step, sum_fits}
@@ -17,9 +17,8 @@ overflow_add-sizes c =
 
 pub returns-clause-sizes : goal.returns-clause-sizes
 returns-clause-sizes c =
-    sizes_step c.args.members.now c.args.at (slice_index c.args.above.now c.args.at) c.args.sizes.now _ _ c.requires.there c.requires.members.once
-    (λ d. c.requires.above.each c.args.at d c.requires.below_root c.requires.there)
-    c.requires.length c.requires.sizes refl refl
+    sizes_step c.args.members.now c.args.at (slice_index c.args.above.now c.args.at) c.args.sizes.now c.requires.there c.requires.members.once
+    (λ d. c.requires.above.each c.args.at d c.requires.below_root c.requires.there) c.requires.length c.requires.sizes
 
 pub bounds-sizes-place-2 : goal.bounds-sizes-place-2
 bounds-sizes-place-2 c =

@@ -1,7 +1,8 @@
 use Rattle.std.proofs.Common.{◌+◌, ◌∙◌, ap, arith, length, get_or, drop, subst, sym}
+use Rattle.std.proofs.lemmas.List.{get_or_default}
 use Rattle.route_tree.specs.Rose.{of_list, count}
 use Rattle.route_tree.specs.Order.{HaveEachNodeOnce}
-use Rattle.route_tree.proofs.Waiting.{taken, hanging_once, once_drop, default_is, no_member, closed_is, waits_less, removed_length}
+use Rattle.route_tree.proofs.Waiting.{taken, hanging_once, once_drop, no_member, closed_is, waits_less, removed_length}
 use Rattle.route_tree.proofs.Counting.{hanging_fits}
 use Rattle.route_tree.proofs.growth.close_last.Goals as goal
 
@@ -25,7 +26,7 @@ hang-requires g c =
 pub returns : goal.returns
 returns g c =
     let m = get_or c.args.members.now c.args.at no_member in
-    let is = default_is c.args.members.now c.args.at no_member c.requires.there in
+    let is = get_or_default c.args.members.now c.args.at no_member (get_or c.args.members.now c.args.at no_member) c.requires.there in
     waits_less c.args.members.now c.args.at c.parent_place-place.result c.args.slots.now.items c.take_last-children.new.slots.items c.hang.new.slots.items m c.close-twig.result c.requires.there c.requires.members.once c.requires.waits is
     (c.parent_place-place.ensures no_member) c.take_last-children.ensures.items
     (closed_is c.args.members.now c.args.at c.args.slots.now.items c.take_last-children.result m c.close-twig.result c.requires.members.once c.requires.waits c.take_last-children.ensures.value is c.close-twig.ensures)

@@ -1,8 +1,9 @@
 use Rattle.std.proofs.Common.{◌≡◌, ap, arith, subst, drop, sym, get_or}
+use Rattle.std.proofs.lemmas.List.{get_or_default}
 use Rattle.route_tree.specs.Rose.{of_list, count}
 use Rattle.route_tree.specs.Order.{HaveEachNodeOnce}
 use Rattle.route_tree.specs.Slots.{Waits}
-use Rattle.route_tree.proofs.Waiting.{taken, hanging_once, once_drop, default_is, no_member, closed_is, first_is}
+use Rattle.route_tree.proofs.Waiting.{taken, hanging_once, once_drop, no_member, closed_is, first_is}
 use Rattle.route_tree.proofs.Counting.{hanging_fits}
 use Rattle.route_tree.proofs.growth.grown.Goals as goal
 
@@ -26,6 +27,6 @@ returns g c = λ d.
     let one : c.loop-left.left ≡ 1 = omega (arith, c.loop-left.invariant.0) in
     let w = subst (λ n. Waits c.args.members.now n c.loop-left.slots.items) one c.loop-left.invariant.1.1 in
     let m = get_or c.args.members.now 0 no_member in
-    let is = default_is c.args.members.now 0 no_member c.requires.members.some in
+    let is = get_or_default c.args.members.now 0 no_member (get_or c.args.members.now 0 no_member) c.requires.members.some in
     first_is c.args.members.now m c.close.result d c.requires.members.some is
     (closed_is c.args.members.now 0 c.loop-left.slots.items c.take_last-children.result m c.close.result c.requires.members.once w c.take_last-children.ensures.value is c.close.ensures)

@@ -1,6 +1,7 @@
 use Rattle.std.proofs.Common.{◌∙◌, ap, sym, get_or}
+use Rattle.std.proofs.lemmas.List.{get_or_default}
 use Rattle.route_tree.specs.declared.member.Member.{Member}
-use Rattle.route_tree.proofs.Waiting.{clash, no_member, same_default}
+use Rattle.route_tree.proofs.Waiting.{clash, no_member}
 use Rattle.route_tree.proofs.Finding.{stands}
 use Rattle.route_tree.proofs.growth.parent_place.Goals as goal
 
@@ -17,4 +18,4 @@ bounds-places-parent c =
 pub returns : goal.returns
 returns c = λ d.
     (stands c.args.members.now c.args.at c.in-Some.parent c.args.places.now (get_or c.args.members.now c.args.at d) c.requires.places c.requires.there
-    (c.requires.members.parents c.args.at d c.requires.below_root c.requires.there) (ap (λ (m : Member). m.parent) (same_default c.args.members.now c.args.at d no_member c.requires.there) ∙ c.in-Some.is)).1
+    (c.requires.members.parents c.args.at d c.requires.below_root c.requires.there) (ap (λ (m : Member). m.parent) (get_or_default c.args.members.now c.args.at d no_member c.requires.there) ∙ c.in-Some.is)).1

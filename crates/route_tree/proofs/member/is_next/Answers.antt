@@ -1,6 +1,7 @@
 use Rattle.std.proofs.Common.{◌<◌, ◌∙◌, sym, arith}
+use Rattle.std.proofs.lemmas.Bool.{both_ways}
 use Rattle.route_tree.proofs.Waiting.{clash, no_member}
-use Rattle.route_tree.proofs.Following.{not_both, by_answer, refused, some_of, none_of, is_not_fresh, is_next_from, parent_not_found}
+use Rattle.route_tree.proofs.Following.{by_answer, refused, some_of, none_of, is_not_fresh, is_next_from, parent_not_found}
 use Rattle.route_tree.proofs.member.is_next.Goals as goal
 
 pub returns-then-is_some : goal.returns-then-is_some
@@ -11,7 +12,7 @@ returns-then-is_some g c =
 pub returns-then-not-has_both : goal.returns-then-not-has_both
 returns-then-not-has_both g c =
     let z : 0 < c.args.at = omega (arith, c.if-at-eq0.false) in
-    refused (λ n. not_both (c.has_both.ensures.1 (n.ports z no_member)) c.if-not-has_both.true)
+    refused (λ n. both_ways _ c.if-not-has_both.true (c.has_both.ensures.1 (n.ports z no_member)))
 
 pub returns-in-Some : goal.returns-in-Some
 returns-in-Some g c =
