@@ -1,13 +1,9 @@
 //! The disk model: a disk that can fail or stop at any call, and what a crash may leave of it.
 //!
-//! # What is believed of a disk
-//!
 //! A disk has a fixed number of bytes, its *content*: what one reads. Where a write answers Ok, its bytes are the content there. Where it fails, or a
 //! crash cuts it off, nobody knows what stands in its range; outside of it nothing has changed. A range is safe once a sync behind its write has
 //! answered Ok, and until then a crash may leave anything in it, the whole range long. Where all is safe, a crash leaves the content. A sync that
-//! failed makes nothing safe. Any call may fail, and says so.
-//!
-//! All of this is one value that contracts see of a disk, a `DiskView` (specs/Disk.antt):
+//! failed makes nothing safe. Any call may fail, and says so. Contracts see all of this as one value, a `DiskView` (specs/Disk.antt):
 //!
 //! | Field | What it says |
 //! |---|---|
@@ -21,42 +17,20 @@
 //! after a call that writes the n places from `at` on (none, for a read or a sync) each image that a crash may leave is one of before, with any bytes
 //! in these places; a crash at an earlier moment, also one inside the call, may have left these and those of before, and nothing else; the clock is
 //! one further; and a fault is answered only where the count of failures rose in the call, Ok only where it didn't. It says the same of the images
-//! whatever the call answers, since a write that is in progress, that failed or that was cut counts its whole range. What Ok adds is a clause of its
-//! own: `bytes`, `written`, `settled`.
+//! whatever the call answers, since a write that failed or was cut counts its whole range. What Ok adds is a clause of its own: `bytes`, `written`,
+//! `settled`. The ranges are no part of the view: over many calls an image is torn in any of their ranges, and a sync that succeeds leaves one alone.
 //!
-//! The ranges are no part of the view, and need not be: an image of now is one of before, torn in the call's range, so over many calls it is torn in
-//! any of their ranges, and a sync that succeeds leaves one image alone.
-//!
-//! # What the layers above use
-//!
-//! `AtMostCalls n old new` says that the device had at most n calls between two views.
-//!
-//! `LeavesOnly old new P` says that a crash at any moment between two views leaves an image that has `P`. It composes by the laws `started`,
-//! `one_call_more`, `joined` and `weaker`; a run that only read has `OnlyRead`, by `only_read`, `nothing_read` and `read_on`. Places that a torn
-//! range leaves alone are in specs/Places.antt.
+//! `AtMostCalls n old new` says that the device had at most n calls between two views. `LeavesOnly old new P` says that a crash at any moment between
+//! two views leaves an image that has `P`. It composes by the laws `started`, `one_call_more`, `joined` and `weaker`; a run that only read has
+//! `OnlyRead`, by `only_read`, `nothing_read` and `read_on`. Places that a torn range leaves alone are in specs/Places.antt.
 //!
 //! Whatever has to be written whole goes through one call, [`publish`]: text behind a gate, a byte, then a sync, then the gate, then a sync. Its
 //! contract is the one that is used above: at any moment a crash leaves the gate's old byte, or the whole text behind it; after Ok the gate is open
 //! and the text is there in every image.
 //!
-//! ```rust
-//! ghost use Rattle.std.specs.Prelude.{ℕ, List, ◌≤◌, length, IsTrue, OnOk};
-//! ghost use Rattle.std.specs.Int.{w64, to_be_bytes};
-//! ghost use Rattle.disk_trait.specs.Disk.{MayLeave, IsPublished};
-//!
-//! use disk_trait::{DeviceFault, Disk, publish};
-//!
-//! /// Keeps eight bytes behind the first byte.
-//! pub fn keep<D: Disk>(disk: &mut D, number: u64) -> Result<(), DeviceFault>
-//!     requires { 9 ≤ length (D.view disk.old).content }
-//!     ensures { IsTrue (D.view disk.old).keeps_model →
-//!         OnOk result ((image : List ℕ) → MayLeave (D.view disk.new) image → IsPublished (D.view disk.old) 0 (to_be_bytes w64 number) image) }
-//! {
-//!     publish(disk, 0, &number.to_be_bytes())
-//! }
+//! ```text
+//! publish(disk, 0, &number.to_be_bytes())?   // eight bytes behind the first byte: whole in every image, or never there
 //! ```
-//!
-//! # The disks
 //!
 //! [`MemDisk`] keeps the model, and this is proved: its view says that a crash leaves an image which agrees with its bytes wherever they are settled.
 //! It fails and stops where a [`Plan`] says so, and nowhere else. [`CrashDisk::crash`] gives the disk after a crash, its content one of the images;

@@ -1,7 +1,5 @@
 //! The desk: it settles requests in order, and commits each group of them as one record.
 //!
-//! # What it is
-//!
 //! A [`Desk`] owns a store and decides what becomes of requests: changes, each under a session and a ticket (the crate `requests`). Requests are
 //! given one by one, up to [`MOST_HELD`], each under a ticket above all that the store or the desk has of its session ([`Desk::is_next`]); then
 //! [`Desk::commit`] settles what is held, in the order in which it was given. A change that the graph takes, after those accepted before it, is
@@ -13,12 +11,10 @@
 //! op. The marks are made due as one posting (the crate `generations` has both), after the commit and never before, and nothing more is given until
 //! they are told and [`Desk::paid`] is called. So whoever reads a mark reads of what is on the device already.
 //!
-//! # The contract
-//!
 //! Contracts see a desk by five words (specs/DeskWords.antt): its store, the requests that it holds, what it has to tell, `tickets_of`, each
 //! session's last ticket with the held ones, and `settled_of`, the settling of what it holds from where its store stands. A settling
-//! (specs/Settling.antt) is the marks, the accepted requests and the state that they lead to. What the layer above uses is [`Desk::commit`]. What
-//! `Ok` says of it is the record `IsGroupCommitted`, and what the refusals say is `RefusesGroup` (specs/Groups.antt):
+//! (specs/Settling.antt) is the marks, the accepted requests and the state that they lead to; [`settling_law`] says what it is good for. What the
+//! layer above uses is [`Desk::commit`]. What `Ok` says is the record `IsGroupCommitted`, and the refusals say `RefusesGroup` (specs/Groups.antt):
 //!
 //! | Answer | What it says |
 //! |---|---|
@@ -29,44 +25,15 @@
 //!
 //! On a device that keeps the disk model, a crash at any moment of the call leaves the state of before or that of the settling (clause `any_moment`),
 //! and at a refusal other than `Device` that of before alone (`keeps_state`). These clauses join with those of the calls before and behind it. Where
-//! nothing is accepted, the store isn't touched (`idle`), so nothing is written. Where something is, the group stands behind the groups of before if
-//! the journal has room for it (`appended`), and only else has the store rolled (`rolled`). `Worn` tells that numbers have run out: the count has no
-//! room for the accepted requests, or a roll is needed and there is no epoch after this one. Where that is so, the answer is `Worn`, or `Memory`
-//! while the group is settled (`past_limits`).
+//! nothing is accepted, the store isn't touched (`idle`). Where something is, the group stands behind the groups of before if the journal has room
+//! for it (`appended`), and only else has the store rolled (`rolled`). `Worn` tells that numbers have run out: the count has no room for the accepted
+//! requests, or a roll is needed and there is no epoch after this one; then the answer is `Worn`, or `Memory` while the group is settled
+//! (`past_limits`). Who judges requests otherwise commits them by [`commit_rolling`], as one record too (specs/StoreCommits.antt).
 //!
-//! [`settling_law`] says what a settling is good for: it goes by parts; the accepted requests lead to its state, whose count is up by their number,
-//! and whose last tickets go on by theirs; of requests in turn the accepted ones are in turn, and the last tickets stay behind those of all requests;
-//! there is one mark for each request, under its session and ticket; the requests marked `Accepted` are those that are accepted; and their counts go
-//! on from the state's, one by one. [`limits_law`] says what [`MOST_HELD`] is.
-//!
-//! Who judges requests otherwise commits them by [`commit_rolling`], as one record too: a desk's own commit is this call, with the requests that were
-//! accepted (`HasCommittedAll` and `RefusesAll` of specs/StoreCommits.antt).
-//!
-//! ```rust
-//! ghost use Rattle.std.specs.Prelude.{◌≡◌, false};
-//! ghost use Rattle.checkpoint.specs.StoreWords.{is_down};
-//!
-//! use checkpoint::Store;
-//! use disk_trait::Disk;
-//! use graph_edits::Change;
-//! use group_commit::{Desk, DeskRefused};
-//! use requests::Request;
-//! use std::alloc::Global;
-//!
-//! /// Asks for one change. The answer is 1 where it is accepted, and then it is on the device; where the session is worn out, there
-//! /// is none.
-//! pub fn ask<D: Disk + Drop>(alloc: Global, store: Store<D>, change: Change) -> Option<Result<usize, DeskRefused>>
-//!     requires { is_down store ≡ false }
-//! {
-//!     let mut desk = Desk::new(store);
-//!     let ticket = desk.resume(0).saturating_add(1);
-//!     let request = Request { session: 0, ticket, change };
-//!     if !desk.is_next(&request) {
-//!         return None;
-//!     }
-//!     desk.give(request);
-//!     Some(desk.commit(alloc))
-//! }
+//! ```text
+//! let mut desk = Desk::new(store);
+//! desk.give(Request { session: 0, ticket: desk.resume(0) + 1, change });   // where `is_next` says so
+//! desk.commit(alloc)?                                                      // 1 where it is accepted: then it is on the device
 //! ```
 #![tactic(auto)]
 

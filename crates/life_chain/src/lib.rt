@@ -1,12 +1,8 @@
 //! Lives of one device, one after another, each ended by a crash: what is promised of them together.
 //!
-//! # What it is
-//!
 //! A [`Life`] opens the device, builds a generation of its network, runs a list of events in any order (the crate `interleave`), in which the device may fail by a
 //! plan, and crashes. [`lives`] runs some of them and reports what each was. The function is small. Its point is the contract: it says of all lives together what
 //! the layers below say of one call.
-//!
-//! # The contract
 //!
 //! The clause `told` is the headline: on any disk that keeps the disk model, the report of any lives tells this of them (`AreTold`, specs/Telling.antt):
 //!

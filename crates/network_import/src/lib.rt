@@ -1,13 +1,9 @@
 //! Edges that come into a device: a store takes them as changes, group by group.
 //!
-//! # What it is
-//!
 //! [`import`] makes the ops for a list of edges, in its order: changes of 16 of them, in groups of 64 changes. An edge is added, or where it is
 //! there, and [`incoming_edges`] was asked for that, gets a new weight. Each group is judged first, whole, by the network as the groups before it
 //! left it; then it is committed as one record, with a roll before it where the journal has no room. The changes are those of session 0, under the
 //! tickets behind its last one.
-//!
-//! # The contract
 //!
 //! It stands on the clauses of `commit_rolling` of the crate `group_commit` (`specs/Imported`):
 //!
@@ -39,8 +35,7 @@
 //! ```text
 //! let edges = [Edge { line: 1, a: 0, b: 1, weight: 5 }, Edge { line: 2, a: 1, b: 0, weight: 7 }];
 //! let edges = incoming_edges(alloc, store.graph(), false, &edges)?;
-//! import(alloc, &mut store, &edges, &mut progress)   // Err(Op { place: 1, code: EdgeThere }); nothing of the group is
-//! in
+//! import(alloc, &mut store, &edges, &mut progress)   // Err(Op { place: 1, code: EdgeThere }): nothing of the group is in
 //! ```
 #![tactic(auto)]
 

@@ -3,8 +3,6 @@
 //! Whoever routes in a graph needs its scheme by one word for each node: a word below the bound makes its node a landmark. Of words that are too many the first
 //! count, and for words that are too few the greatest stands in ([`first_words`]), so any words will do.
 //!
-//! # Building
-//!
 //! [`scheme_of`] chooses the landmarks and builds, in one call: the scheme keeps all rules, serves the graph, has exactly the landmarks that these words give, and
 //! the generation that was handed in (`IsSchemeOf` of `specs/Schemes`).
 //!

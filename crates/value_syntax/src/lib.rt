@@ -22,18 +22,11 @@
 //! them; where memory is refused, nothing was drawn.
 //!
 //! ```text
-//! number(alloc, "17", 65_535)?               // Some(17)
-//! op(alloc, "cut:0:1")?                      // Some(Op::Cut(0, 1))
-//! let Some(words) = landmark_words(alloc, "at:2")? else { .. };
-//! words.is_within(3)                         // true
-//! words.of_nodes(alloc, 3)?                  // u64::MAX, u64::MAX, 0
-//!
-//! let mut draws = Draws::seeded(7);
-//! let first = draws.next(alloc, 5)?;         // the words of `draw:7` for five nodes
-//! let second = draws.next(alloc, 5)?;        // the five after them
+//! number(alloc, "17", 65_535)?                        // Some(17)
+//! landmark_words(alloc, "at:2")?                      // Some: of 3 nodes u64::MAX, u64::MAX, 0
+//! script(alloc, "0 add:0:1:1\nroute 0 1", 2)?         // Some: a change of session 0, and a packet from 0 to 1
+//! script(alloc, "2 add:0:1:1", 2)?                    // None: there are the sessions 0 and 1
 //! ```
-//!
-//! # Scripts
 //!
 //! A script has a line for each thing that is to be done, each ended by a line feed, which the last one may lack:
 //!
@@ -45,11 +38,6 @@
 //! What [`script`] reads is written so (`found`), and what is written so is read (`only`), by the words of each line, cut at each blank
 //! (`specs/Scripts`). It answers `None` exactly where a line is of neither form: an empty one, one with a blank too many, with a session that has no
 //! editor, with more ops than a change may have, or with a number past its type.
-//!
-//! ```text
-//! script(alloc, "0 add:0:1:1\nroute 0 1", 2)?     // Some: a change of session 0, and a packet from 0 to 1
-//! script(alloc, "2 add:0:1:1", 2)?                // None: there are the sessions 0 and 1
-//! ```
 #![tactic(auto)]
 
 mod draws;
