@@ -1,11 +1,21 @@
 -- Edges, a row more at a time.
 use Rattle.std.proofs.Common.{◌≡◌, ◌<◌, ◌+◌, ◌∙◌, ap, sym, subst, ℕ, List, [], ◌∷◌, ◌++◌, Some, map, length, take, drop, get_or}
+use Rattle.std.specs.Prelude.{IfNone, IfSome, None, OnSome, Option}
 use Rattle.std.specs.List.{AllZip}
 use Rattle.std.specs.Option.{option_map}
 use Rattle.std.proofs.lemmas.Option.{slice_get-get_or, slice_get-map}
 use Rattle.std.proofs.lemmas.List.{drop_more, map-append, map_push, take-append-drop, take-map, take_more}
 use Rattle.edge_lists.specs.Edges.{IsFirstOdd}
-pub use Rattle.edge_rows.proofs.RowLemmas.{at_some, on_none, on_some}
+
+-- what a clause says where something was found, or nothing was
+pub at_some : {A : Type 0} (P : A → Type 0) {o : Option A} {x : A} → o ≡ Some x → IfSome o P → P x
+at_some P is so = subst (λ o. IfSome o P) is so
+
+pub on_some : {A P : Type 0} {o : Option A} {x : A} → o ≡ Some x → OnSome o P → P
+on_some {P} is so = subst (λ o. OnSome o P) is so
+
+pub on_none : {A P : Type 0} {o : Option A} → o ≡ None → IfNone o P → P
+on_none {P} is so = subst (λ o. IfNone o P) is so
 
 -- two lists, each with one more
 pub zip_push : {A B : Type 0} (R : A → B → Type 0) (xs : List A) (ys : List B) (x : A) (y : B) → AllZip R xs ys → R x y → AllZip R (xs ++ x ∷ []) (ys ++ y ∷ [])

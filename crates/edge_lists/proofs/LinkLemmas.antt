@@ -11,8 +11,8 @@ use Rattle.serde_json.specs.Read.{read}
 use Rattle.edge_lists.specs.Links.{IsLink, IsNoLink, IsNoNetwork, IsNoNodeLink, LinksSay, first_of, if_name, items_at, items_in, links_of, name_at, number_of, text_or, weight_in, word_of}
 use Rattle.edge_rows.specs.Rows.{Said}
 use Rattle.edge_lists.proofs.EdgeLemmas.{front_more}
-use Rattle.edge_rows.specs.declared.refused.Form.{Form}
-use Rattle.edge_rows.specs.declared.refused.Form.TheVariants as forms
+use Rattle.edge_rows.specs.declared.row.Form.{Form}
+use Rattle.edge_rows.specs.declared.row.Form.TheVariants as forms
 
 -- ---- words
 

@@ -73,17 +73,10 @@ module _ {S : Type 0} (by_least : Bool) (given : List Edge) (old : HashMap ℕ E
         (edge, there (pair_of x) same, (omega (arith, whole.0, stands.2.0), λ asked. whole.1 asked ∙ stands.2.1 asked))
     each_at x stands false apart = (stands.0, others (pair_of x) apart ∙ stands.1, stands.2)
 
--- values are apart by their nodes, where each is at the number of its nodes
-values_apart : (es : List (ℕ × Edge)) → ((k : ℕ) (e : Edge) → Contains es (k, e) → pair_of e ≡ k) → AllPairs (λ x y. x ≢ y) (keys_of es) → AllPairs (λ x y. pair_of x ≢ pair_of y) (values_of es)
-values_apart es own apart i j d before lt same =
-    let none : ℕ × Edge = (0, d) in
-    let last : j < length es = omega (arith, lt, length-map es (λ (e : ℕ × Edge). e.1)) in
-    let first : i < length es = omega (arith, before, last) in
-    let keys : j < length (keys_of es) = omega (arith, last, length-map es (λ (e : ℕ × Edge). e.0)) in
-    let number : (k : ℕ) → k < length es → get_or (keys_of es) k 0 ≡ pair_of (get_or (values_of es) k d) =
-    λ k within. get_or-map (λ (e : ℕ × Edge). e.0) es k none 0 within ∙ sym (own (get_or es k none).0 (get_or es k none).1 (Contains-get_or es k none within))
-    ∙ ap pair_of (sym (get_or-map (λ (e : ℕ × Edge). e.1) es k none d within)) in
-    apart i j 0 before keys (number i first ∙ same ∙ sym (number j last))
+-- edges are apart by their nodes, where these are apart
+edges_apart : (edges : List Edge) → AllPairs (λ x y. x ≢ y) (map pair_of edges) → AllPairs (λ x y. pair_of x ≢ pair_of y) edges
+edges_apart edges apart i j d before lt same =
+    apart i j 0 before (omega (arith, lt, length-map edges pair_of)) (get_or-map pair_of edges i d 0 (omega (arith, before, lt)) ∙ same ∙ sym (get_or-map pair_of edges j d 0 lt))
 
 -- their nodes are the keys
 keys_back : (es : List (ℕ × Edge)) → ((k : ℕ) (e : Edge) → Contains es (k, e) → pair_of e ≡ k) → map pair_of (values_of es) ≡ keys_of es
@@ -95,12 +88,13 @@ values_once : {S : Type 0} (by_least : Bool) (given : List Edge) (kept : HashMap
 values_once by_least given kept is =
     let entry = hash_map_get_iff nat_eq_equiv (λ x y. (Decides-eqb x y).0) kept is.unique in
     let found = λ (k : ℕ) (e : Edge) (at : Contains kept.entries (k, e)). is.from k e ((entry k e).1 at) in
+    let nodes : map pair_of (values kept) ≡ keys_of kept.entries = keys_back kept.entries (λ k e at. (found k e at).1) in
     record {
       from = All-weaker (Contains (values kept)) (Contains given) (λ x there. let at = Contains-from_values_of kept.entries x there in (found at.0 x at.1).0) (values kept) (All-contains_itself (values kept));
       each = All-weaker (Stands by_least kept) (λ (x : Edge). (other : Edge) × Contains (values kept) other × (pair_of other ≡ pair_of x) × StandsFor by_least other.weight x.weight)
           (λ x stands. (stands.0, Contains-values_of kept.entries (pair_of x) stands.0 ((entry (pair_of x) stands.0).0 stands.1), (is.from (pair_of x) stands.0 stands.1).1, stands.2)) given is.each;
-      order = keys_back kept.entries (λ k e at. (found k e at).1) ∙ is.order;
-      once = values_apart kept.entries (λ k e at. (found k e at).1) (AllPairs-from_IsDistinct Decides-eqb (keys_of kept.entries) is.unique);
+      order = nodes ∙ is.order;
+      once = edges_apart (values kept) (subst (λ (l : List ℕ). AllPairs (λ x y. x ≢ y) l) (sym nodes) (AllPairs-from_IsDistinct Decides-eqb (keys_of kept.entries) is.unique));
     }
 
 -- ---- as the code has it

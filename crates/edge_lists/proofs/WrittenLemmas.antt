@@ -1,13 +1,13 @@
 -- Lists that were written are read as what they are.
-use Rattle.std.proofs.Common.{arith, ◌≡◌, ◌≢◌, ◌==◌, ◌≤◌, ◌<◌, ◌+◌, ◌-◌, ◌^◌, ◌∙◌, ◌&&◌, not, inl, inr, sym, ap, subst, refl, ℕ, zero, suc, List, [], ◌∷◌, ◌++◌, Bool, true, false, cond, map, length, drop, get_or, Option, Some, None, append_assoc, codes, decimal, Bor}
-use Rattle.std.specs.Prelude.{All, unwrap_or}
+use Rattle.std.proofs.Common.{arith, ◌≡◌, ◌≢◌, ◌==◌, ◌≤◌, ◌<◌, ◌+◌, ◌-◌, ◌^◌, ◌∙◌, ◌&&◌, not, sym, ap, ap₂, subst, refl, ℕ, zero, suc, List, [], ◌∷◌, ◌++◌, Bool, true, false, cond, map, length, drop, get_or, Option, Some, None, append_assoc, codes, decimal, Bor}
+use Rattle.std.specs.Prelude.{All, Ok, Err, unwrap_or}
 use Rattle.std.specs.Char.{is_ascii_whitespace}
 use Rattle.std.specs.List.{flat_map, list_any, slice_get, slice_split}
 use Rattle.std.proofs.Math.Seq.{drop-append_seam}
-use Rattle.std.proofs.lemmas.Bool.{ne_eqb}
+use Rattle.std.proofs.lemmas.Bool.{both_ways, ne_eqb}
 use Rattle.std.proofs.lemmas.Bool.Decides.{nat_tests}
-use Rattle.std.proofs.lemmas.Fmt.{decimal_injective, decimal_is_IsNumeral, decimal_nonempty}
-use Rattle.std.proofs.lemmas.List.{append-nil, map-append, take-append-drop}
+use Rattle.std.proofs.lemmas.Fmt.{decimal_is_IsNumeral, decimal_nonempty}
+use Rattle.std.proofs.lemmas.List.{append-nil, map-append}
 use Rattle.std.proofs.lemmas.List.Concat.{flat_map-append}
 use Rattle.std.proofs.lemmas.List.Elements.{All-append, All-cons, All-from_get_or, All-from_recursion, All-head, All-map, All-nil, All-push, All-tail, All-weaker}
 use Rattle.std.proofs.lemmas.List.Folds.{flat_map-map, list_any_none}
@@ -17,19 +17,19 @@ use Rattle.std.proofs.lemmas.Str.Parse.{digit_at}
 use Rattle.value_syntax.specs.Scripts.{lines_of, without_empty_last}
 use Rattle.value_syntax.proofs.Written.{empty_goes}
 use Rattle.edge_lists.specs.declared.edge.Edge.{Edge}
-use Rattle.edge_lists.specs.declared.refused.NameForm.{NameForm}
-use Rattle.edge_lists.specs.declared.refused.NameForm.TheVariants.{NoName, Twice, TooMany}
-use Rattle.edge_lists.specs.declared.refused.NameRefused.{NameRefused}
+use Rattle.edge_lists.specs.declared.names.NameForm.{NameForm}
+use Rattle.edge_lists.specs.declared.names.NameForm.TheVariants.{NoName, Twice, TooMany}
+use Rattle.edge_lists.specs.declared.names.NameRefused.{NameRefused}
 use Rattle.edge_lists.specs.NameLists.{AreNames, IsFirstNoName, IsNoName, IsNumberOf}
+use Rattle.edge_lists.specs.Linked.{below}
+use Rattle.edge_lists.specs.Written.{AreListed, AreRead, FitTypes, IsList, IsOneLine, edge_line, edges_text, head_lines, head_words, label_of, labels_of, names_text, remark, said_of}
 use Rattle.edge_rows.specs.declared.forms.Heading.TheVariants.{ByWords}
 use Rattle.edge_rows.specs.declared.forms.Writing.{Writing}
 use Rattle.edge_rows.specs.declared.forms.Writing.TheVariants.{Edges}
-use Rattle.edge_rows.specs.Labels.{AreLabels, IsLabel, begins_comment, begins_mark, is_blank_at, is_name, separates}
-use Rattle.edge_lists.specs.Linked.{below}
+use Rattle.edge_rows.specs.Labels.{AreLabels, IsLabel, begins, begins_mark, is_blank_at, is_name, separates}
 use Rattle.edge_rows.specs.Records.{comma_fields, has_comma}
-use Rattle.edge_rows.specs.Rows.{IsRowOf, IsWeight, Said, Say, SaysEdges, begins_as_name, counted, fields_of, head_count, heads_ends, is_head, is_heading, lead, names_said, nodes_said, parts_at, remarked, remarks, says_nothing, unless_empty, with_first, words_of}
-use Rattle.edge_lists.specs.Written.{AreListed, AreRead, FitTypes, IsList, IsOneLine, edge_line, edges_text, head_lines, head_words, label_of, labels_of, names_text, remark, said_of}
-use Rattle.edge_rows.proofs.RowLemmas.{both_ways}
+use Rattle.edge_rows.specs.Rows.{Said, SaysEdges, alone, begins_as_name, counted, each_of, fields_of, head_count, heads_ends, in_front, is_head, is_heading, lead, line_says, names_said, nodes_said, parts_at, remarked, remarks, row_by, row_said, says_nothing, unless_empty, with_first, with_item, words_of}
+use Rattle.edge_rows.proofs.WeightLemmas.{weight_read}
 use Rattle.edge_lists.proofs.NameLemmas.{number_of_seam, number_stays, place_among}
 
 -- how a list is read that was written
@@ -65,7 +65,7 @@ none_refused most names are refused first = by refused.form first.form where
   by : (form : NameForm) → IsNoName most first.names first.line form → ⊥
   by NoName why =
       let there = get_or_from_slice_get names (length first.names) first.line first.line at in
-      both_ways (is_name first.line) (ap is_name (sym there) ∙ are.each (length first.names) first.line lt) why
+      both_ways (is_name first.line) why (ap is_name (sym there) ∙ are.each (length first.names) first.line lt)
   by Twice why =
       let place = place_among first.names first.line why.1 in
       let front = subst (λ (l : List (List ℕ)). IsNumberOf l first.line place.0) (sym first.parts) (number_stays first.names (first.line ∷ first.behind) first.line place.0 place.1) in
@@ -86,52 +86,19 @@ listed_names most text names is are plain =
 
 -- ---- what a text says, it says alone
 
-one_weight : (v w : ℕ) (fields : List (List ℕ)) → v < 2 ^ 32 → w < 2 ^ 32 → IsWeight None v fields → IsWeight None w fields → v ≡ w
-one_weight v w fields small fits (inl p) (inl q) = p.1 ∙ sym q.1
-one_weight v w fields small fits (inl (none, one)) (inr q) = absurd (cc)
-one_weight v w fields small fits (inr p) (inl (none, one)) = absurd (cc)
-one_weight v w fields small fits (inr p) (inr q) =
-    let same : decimal v ≡ decimal w = cc in
-    decimal_injective v w (omega (arith, small)) (omega (arith, fits)) same
-
-one_row : (line : ℕ) (fields : List (List ℕ)) (s t : Said) → IsRowOf None line fields s → IsRowOf None line fields t → s ≡ t
-one_row line fields s t a b =
-    let whole : s.a ∷ s.b ∷ a.behind ≡ t.a ∷ t.b ∷ b.behind = sym a.written ∙ b.written in
-    let first : s.a ≡ t.a = cc in
-    let second : s.b ≡ t.b = cc in
-    let rest : a.behind ≡ b.behind = cc in
-    let number = a.number ∙ sym b.number in
-    let weight = one_weight s.weight t.weight b.behind a.fits b.fits (subst (IsWeight None s.weight) rest a.weighted) b.weighted in
-    ap (λ (n : ℕ). record { line = n; a = s.a; b = s.b; weight = s.weight }) number
-    ∙ ap (λ (x : List ℕ). record { line = t.line; a = x; b = s.b; weight = s.weight }) first
-    ∙ ap (λ (x : List ℕ). record { line = t.line; a = t.a; b = x; weight = s.weight }) second
-    ∙ ap (λ (n : ℕ). record { line = t.line; a = t.a; b = t.b; weight = n }) weight
-
-one_say : (before : ℕ) (texts : List (List ℕ)) (s t : List Said) → Say listed before texts s → Say listed before texts t → s ≡ t
-one_say before [] s t a b = a ∙ sym b
-one_say before (text ∷ texts) s t (inl a) (inl b) = one_say (before + 1) texts s t a.1 b.1
-one_say before (text ∷ texts) s t (inl a) (inr b) = absurd (both_ways (says_nothing listed (words_of text)) a.0 b.2)
-one_say before (text ∷ texts) s t (inr a) (inl b) = absurd (both_ways (says_nothing listed (words_of text)) b.0 a.2)
-one_say before (text ∷ texts) s t (inr a) (inr b) =
-    let row : a.0 ≡ b.0 = one_row (before + 1) (fields_of listed text) a.0 b.0 a.4 b.4 in
-    a.3 ∙ ap (λ (r : Said). r ∷ a.1) row ∙ ap (λ (l : List Said). b.0 ∷ l) (one_say (before + 1) texts a.1 b.1 a.5 b.5) ∙ sym b.3
-
 -- what a text says is read, and nothing else
-pub read_alone : (text : List ℕ) (said : List Said) → SaysEdges listed text said → AreRead text said
-read_alone text said says =
-    let before = lead listed (lines_of text) in
-    let lines = drop before (lines_of text) in
-    record {
-      says = says;
-      only = λ other is. one_say before lines other said is says;
-      none = λ n refused. refused.refused (drop (n - before) lines) said (subst (λ (l : List (List ℕ)). Say listed before l said) (sym (take-append-drop (n - before) lines)) says);
-    }
+read_alone : (text : List ℕ) (said : List Said) → SaysEdges listed text said → AreRead text said
+read_alone text said says = record {
+  says = says;
+  only = λ other is. let same : Ok other ≡ Ok said = sym is ∙ says in cc;
+  none = λ n refused. let bad : Err n ≡ Ok said = sym refused ∙ says in cc;
+}
 
 -- ---- words
 
 -- what separates doesn't stand in what nothing separates
 without : (n : ℕ) → separates n ≡ true → (word : List ℕ) → All (λ b. separates b ≡ false) word → All (λ b. (b == n) ≡ false) word
-without n is word all k d lt = ne_eqb (get_or word k d) n (λ same. both_ways (separates n) is (ap separates (sym same) ∙ all k d lt))
+without n is word all k d lt = ne_eqb (get_or word k d) n (λ same. both_ways (separates n) (ap separates (sym same) ∙ all k d lt) is)
 
 -- a word that a line may have
 pub record IsWord (word : List ℕ) : Type 0 where
@@ -169,7 +136,7 @@ word_alone w is = ap words_in (slice_split_none (λ (x : ℕ). x == 32) w (witho
 
 -- ---- labels
 
-unmarked : (text : List ℕ) → begins_comment text ≡ false → begins_mark text ≡ false
+unmarked : (text : List ℕ) → begins 35 text ≡ false → begins_mark text ≡ false
 unmarked [] is = refl
 unmarked (b ∷ []) is = refl
 unmarked (b ∷ c ∷ bs) is = ap (λ (t : Bool). t && (c == 32)) is
@@ -189,7 +156,7 @@ digit_dark b (low, high) = grind (arith, nat_tests, low)
 dark_at : (word : List ℕ) (k : ℕ) → All IsDigit word → k < length word → is_blank_at (slice_get word k) ≡ false
 dark_at word k all lt = ap is_blank_at (slice_get-get_or word k 0 lt) ∙ digit_dark (get_or word k 0) (all k 0 lt)
 
-digits_silent : (word : List ℕ) → All IsDigit word → begins_comment word ≡ false
+digits_silent : (word : List ℕ) → All IsDigit word → begins 35 word ≡ false
 digits_silent [] all = refl
 digits_silent (b ∷ bs) all = ne_eqb b 35 (λ e. omega (arith, e, (All-head IsDigit b bs all).0))
 
@@ -272,28 +239,28 @@ module _ (names : List (List ℕ)) (all : All IsLabel names) (edge : Edge) (fit 
 
   line_remark : remarked line ≡ None
   line_remark = ap (λ (t : Bool). cond t (Some (drop 2 line)) None) (unmarked line (silent a is_a.silent)) where
-    silent : (word : List ℕ) → begins_comment word ≡ false → begins_comment (word ++ 32 ∷ (b ++ 32 ∷ w)) ≡ false
+    silent : (word : List ℕ) → begins 35 word ≡ false → begins 35 (word ++ 32 ∷ (b ++ 32 ∷ w)) ≡ false
     silent [] is = refl
     silent (x ∷ xs) is = is
 
-  line_row : (before : ℕ) → IsRowOf None (before + 1) (fields_of listed line) (record { line = before + 1; a = a; b = b; weight = edge.weight })
-  line_row before = record { number = refl; first = is_a.name; second = is_b.name; fits = fit.weight; behind = w ∷ []; written = line_fields; weighted = inr refl }
+  abbrev one : ℕ → Said
+  one n = record { line = n; a = a; b = b; weight = edge.weight }
+
+  line_row : (n : ℕ) → line_says listed n line ≡ Some (one n ∷ [])
+  line_row n =
+      ap (λ (t : Bool). cond t (Some []) (alone (row_said None n (fields_of listed line)))) line_some ∙ ap (λ l. alone (row_said None n l)) line_fields
+      ∙ ap (λ o. alone (row_by n a b o)) (weight_read w edge.weight refl (omega (arith, fit.weight)))
+      ∙ ap (λ (t : Bool). alone (cond (t && is_name b) (Some (one n)) None)) is_a.name ∙ ap (λ (t : Bool). alone (cond t (Some (one n)) None)) is_b.name
 
 -- ---- lines of edges
 
 module _ (names : List (List ℕ)) (all : All IsLabel names) where
-  edges_said : (before : ℕ) (edges : List Edge) → All FitTypes edges → Say listed before (map (edge_line names) edges) (said_of names before edges)
+  edges_said : (before : ℕ) (edges : List Edge) → All FitTypes edges → each_of (line_says listed) (before + 1) (map (edge_line names) edges) ≡ Ok (said_of names before edges)
   edges_said before [] fit = refl
   edges_said before (edge ∷ edges) fit =
       let here = All-head FitTypes edge edges fit in
-      inr (
-        record { line = before + 1; a = label_of names edge.a; b = label_of names edge.b; weight = edge.weight },
-        said_of names (before + 1) edges,
-        line_some names all edge here,
-        refl,
-        line_row names all edge here before,
-        edges_said (before + 1) edges (All-tail FitTypes edge edges fit),
-      )
+      ap (λ o. with_item o (before + 1) (each_of (line_says listed) (before + 1 + 1) (map (edge_line names) edges))) (line_row names all edge here (before + 1))
+      ∙ ap (in_front (one names all edge here (before + 1) ∷ [])) (edges_said (before + 1) edges (All-tail FitTypes edge edges fit))
 
   no_lead : (edges : List Edge) → All FitTypes edges → lead listed (map (edge_line names) edges) ≡ 0
   no_lead [] fit = refl
@@ -375,7 +342,7 @@ list_read names nodes edges text is all fit small =
     let front : lead listed (lines_of text) ≡ length head = omega (arith, ap (lead listed) lines, lead_behind (head_words names nodes) rest words, no_lead names all edges fit) in
     let left : drop (lead listed (lines_of text)) (lines_of text) ≡ rest = ap (λ (n : ℕ). drop n (lines_of text)) front ∙ ap (λ (l : List (List ℕ)). drop (length head) l) lines ∙ drop-append_seam head rest in
     let says : SaysEdges listed text said =
-    subst (λ (l : List (List ℕ)). Say listed (lead listed (lines_of text)) l said) (sym left) (subst (λ (n : ℕ). Say listed n rest said) (sym front) (edges_said names all (length head) edges fit)) in
+    ap₂ (λ (n : ℕ) (l : List (List ℕ)). each_of (line_says listed) (n + 1) l) front left ∙ edges_said names all (length head) edges fit in
     record {
       written = is;
       read = read_alone text said says;

@@ -7,8 +7,8 @@ use Rattle.serde_json.specs.Read.{read}
 use Rattle.edge_lists.specs.Edges.{IsFirstOdd}
 use Rattle.edge_rows.specs.Labels.{begins, is_name}
 use Rattle.edge_rows.specs.Rows.{Said}
-use Rattle.edge_rows.specs.declared.refused.Form.{Form}
-use Rattle.edge_rows.specs.declared.refused.Form.TheVariants.{Arrays, Json, Link, Node, Weight}
+use Rattle.edge_rows.specs.declared.row.Form.{Form}
+use Rattle.edge_rows.specs.declared.row.Form.TheVariants.{Arrays, Json, Link, Node, Weight}
 
 -- the text begins with `{`, as a value of JSON with nodes and links does
 abbrev pub begins_object : List ℕ → Bool

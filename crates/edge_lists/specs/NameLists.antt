@@ -3,9 +3,9 @@ use Rattle.std.specs.Prelude.{◌≡◌, ◌≤◌, ◌+◌, ◌⊎◌, ◌||◌
 use Rattle.std.specs.List.{flat_map, list_any, slice_get}
 use Rattle.std.specs.Str.{bytes_eq}
 use Rattle.edge_lists.specs.declared.edge.Edge.{Edge}
-use Rattle.edge_lists.specs.declared.refused.NameForm.{NameForm}
-use Rattle.edge_lists.specs.declared.refused.NameForm.TheVariants.{NoName, Twice, TooMany}
-use Rattle.edge_lists.specs.declared.refused.NameRefused.{NameRefused}
+use Rattle.edge_lists.specs.declared.names.NameForm.{NameForm}
+use Rattle.edge_lists.specs.declared.names.NameForm.TheVariants.{NoName, Twice, TooMany}
+use Rattle.edge_lists.specs.declared.names.NameRefused.{NameRefused}
 use Rattle.edge_lists.specs.Edges.{AreEdgesOf}
 use Rattle.edge_rows.specs.Labels.{is_name}
 use Rattle.edge_rows.specs.Rows.{Said}

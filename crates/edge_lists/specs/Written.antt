@@ -3,7 +3,7 @@ use Rattle.std.specs.Prelude.{◌≡◌, ◌==◌, ◌<◌, ◌+◌, ◌*◌, �
 use Rattle.std.specs.List.{flat_map, slice_get}
 use Rattle.value_syntax.specs.Scripts.{lines_of}
 use Rattle.edge_lists.specs.declared.edge.Edge.{Edge}
-use Rattle.edge_lists.specs.declared.refused.NameRefused.{NameRefused}
+use Rattle.edge_lists.specs.declared.names.NameRefused.{NameRefused}
 use Rattle.edge_lists.specs.NameLists.{AreNames, IsFirstNoName}
 use Rattle.edge_rows.specs.declared.forms.Heading.TheVariants.{ByWords}
 use Rattle.edge_rows.specs.declared.forms.Writing.TheVariants.{Edges}

@@ -5,8 +5,7 @@ ghost use Rattle.edge_lists.specs.Called.{IsCalled, SaysNumbers};
 ghost use Rattle.edge_lists.specs.NameLists.{IsFirstNoName};
 ghost use Rattle.edge_rows.specs.Reading.{IfAccepted, IfRefused};
 
-use crate::names::Names;
-use crate::refused::NameRefused;
+use crate::names::{NameRefused, Names};
 use edge_rows::Judged;
 use std::alloc::Global;
 

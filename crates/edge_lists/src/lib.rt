@@ -18,11 +18,9 @@
 
 mod called;
 mod edge;
-mod linked;
 mod links;
 mod names;
 mod once;
-mod refused;
 mod writing;
 
 pub use called::{Called, NUMBERS, read_called};
@@ -30,9 +28,7 @@ pub use edge::{Edge, by_numbers, call_numbers, node_in};
 pub use edge_rows::{
     Form, Heading, LineRefused, Nodes, Row, Writing, form_of, read_nodes, read_rows,
 };
-pub use linked::node_link_text;
 pub use links::{Links, begins_object, read_links};
-pub use names::Names;
+pub use names::{NameForm, NameRefused, Names};
 pub use once::{Clash, each_once};
-pub use refused::{NameForm, NameRefused};
-pub use writing::{dimacs_text, edge_list, list_head, push_label};
+pub use writing::{dimacs_text, edge_list, list_head, node_link_text, push_label};

@@ -4,18 +4,38 @@ ghost use Rattle.std.specs.String.{string_bytes};
 ghost use Rattle.value_syntax.specs.Reading.{IfRead, texts_of};
 ghost use Rattle.value_syntax.specs.Scripts.{lines_of};
 ghost use Rattle.edge_lists.specs.Edges.{IsEdgeOf};
-ghost use Rattle.edge_lists.specs.NameLists.{AreBegun, AreNames, AreTaken, EndsAt, HaveNumbers, IsFirstNoName, IsNumberOf, IsOneTooMany, NoneTwice, has_number, is_among, row_ends, with_name, with_names};
+ghost use Rattle.edge_lists.specs.NameLists.{AreBegun, AreNames, AreTaken, EndsAt, HaveNumbers, IsFirstNoName, IsNoName, IsNumberOf, IsOneTooMany, NoneTwice, has_number, is_among, row_ends, with_name, with_names};
 ghost use Rattle.edge_rows.specs.Reading.{IfAccepted, IfNoneRead, IfRefused, OnRead};
 ghost use Rattle.edge_rows.specs.Rows.{row_of};
 ghost use Rattle.edge_lists.specs.Written.{AreListed, IsOneLine, names_text};
 
 use crate::edge::Edge;
-use crate::refused::{NameForm, NameRefused};
 use edge_rows::{Judged, Row, Tried, is_name};
 use indexmap::IndexSet;
 use std::alloc::Global;
 use std::marker::Model;
+use thiserror::Error;
 use value_syntax::lines_in;
+
+/// Why a name isn't taken.
+#[derive(Clone, Copy, Debug, PartialEq, Eq, Drop, Error)]
+pub enum NameForm {
+    #[error("a name has no blank at its ends, and begins with no `#` and a blank")]
+    NoName,
+    #[error("the name stands there twice")]
+    Twice,
+    #[error("there are more names than nodes")]
+    TooMany,
+}
+
+/// The first line whose name isn't taken, and why.
+#[derive(Clone, Copy, Debug, PartialEq, Eq, Drop, Error)]
+#[error("line {number}: {form}")]
+pub struct NameRefused {
+    /// The line's number, from 1.
+    pub number: usize,
+    pub form: NameForm,
+}
 
 /// Names, each of which stands for a number: they are numbered from 0 in the order in which they came. Contracts see
 /// the list of them.
@@ -67,6 +87,24 @@ impl<'a> Names<'a> {
         self.has(name) || self.set.len() < most as usize
     }
 
+    // Takes a line as the next name, or says why it is none.
+    fn take_line(&mut self, line: &'a str, most: u16) -> Tried<Option<NameForm>>
+        ensures taken { IfNoneRead result (self.new ≡ self.old ++ line.entry.now ∷ []) }
+        ensures names { IfNoneRead result (AreNames most self.old → AreNames most self.new) }
+        ensures refused { IfRead result (λ form. IsNoName most self.old line.entry.now form) }
+    {
+        if !is_name(line) {
+            return Ok(Some(NameForm::NoName));
+        }
+        if self.has(line) {
+            return Ok(Some(NameForm::Twice));
+        }
+        match self.number_of(line, most)? {
+            Some(_) => Ok(None),
+            None => Ok(Some(NameForm::TooMany)),
+        }
+    }
+
     /// The names that these lines are, at most `most`. Or the first line that is no name, or is one for the second time.
     pub fn from_lines(alloc: Global, lines: &[&'a str], most: u16) -> Judged<Names<'a>, NameRefused>
         ensures lines { IfAccepted result (λ names. names ≡ texts_of lines.now) }
@@ -76,18 +114,9 @@ impl<'a> Names<'a> {
         let mut names = Names::new(alloc);
         for index in 0..lines.len() {
             let number = index + 1;
-            let name = lines[index];
-            if !is_name(name) {
-                let form = NameForm::NoName;
-                return Ok(Err(NameRefused { number, form }));
-            }
-            if names.has(name) {
-                let form = NameForm::Twice;
-                return Ok(Err(NameRefused { number, form }));
-            }
-            if names.number_of(name, most)?.is_none() {
-                let form = NameForm::TooMany;
-                return Ok(Err(NameRefused { number, form }));
+            match names.take_line(lines[index], most)? {
+                Some(form) => return Ok(Err(NameRefused { number, form })),
+                None => {}
             }
         }
         Ok(Ok(names))
@@ -109,6 +138,7 @@ impl<'a> Names<'a> {
         ensures number { IfRead result (λ number. IsNumberOf self.new name.entry.now number) }
         ensures some { IfOk result (λ found. is_some found ≡ has_number most self.old name.entry.now) }
         ensures names { OnRead result (self.new ≡ with_name self.old name.entry.now) }
+        ensures once { OnRead result (NoneTwice self.new) }
 
         // Nothing changes where there is no number, or no memory.
         ensures none { IfNoneRead result (self.new ≡ self.old) }
@@ -136,12 +166,8 @@ impl<'a> Names<'a> {
         let Some(b) = self.number_of(row.b.as_str(), most)? else {
             return Ok(None);
         };
-        Ok(Some(Edge {
-            line: row.line,
-            a,
-            b,
-            weight: row.weight,
-        }))
+        let (line, weight) = (row.line, row.weight);
+        Ok(Some(Edge { line, a, b, weight }))
     }
 
     /// The edges of rows by the numbers of their names, of which there may be `most`. Or the line whose name is one too

@@ -1,17 +1,14 @@
 -- The forms of lists of edges are told apart, a line at a time.
-use Rattle.std.proofs.Common.{arith, ◌≡◌, ◌≢◌, ◌+◌, ◌∙◌, inl, inr, ap, sym, subst, refl, ℕ, suc, List, [], ◌∷◌, Bool, true, false, not, cond, drop, Option, Some, None, codes}
-use Rattle.std.specs.Prelude.{◌==◌, ◌&&◌, ◌||◌, is_some, unwrap_or}
-use Rattle.std.specs.Str.{str_eq_ignore_ascii_case}
+use Rattle.std.proofs.Common.{arith, ◌≡◌, ◌⊎◌, ◌+◌, ◌∙◌, inl, inr, ap, ap₂, sym, subst, refl, ℕ, suc, List, [], ◌∷◌, Bool, true, false, not, cond, drop, Option, Some, None}
+use Rattle.std.specs.Prelude.{◌&&◌, ◌||◌, Result, Ok, Err, is_some, unwrap_or}
 use Rattle.std.proofs.lemmas.Bool.{or_right}
 use Rattle.std.proofs.lemmas.Bool.Decides.{Decides-eqb}
 use Rattle.value_syntax.specs.Scripts.{lines_of}
 use Rattle.edge_rows.specs.declared.forms.Heading.TheVariants.{ByWords, There, Absent}
 use Rattle.edge_rows.specs.declared.forms.Writing.{Writing}
 use Rattle.edge_rows.specs.declared.forms.Writing.TheVariants.{Edges, Dimacs, Relations}
-use Rattle.edge_rows.specs.Apart.{IsAlone, IsPlain, are_some, form_at, form_by, form_in}
-use Rattle.edge_rows.specs.Labels.{are_digits, begins_comment}
 use Rattle.edge_rows.specs.Records.{comma_fields, has_comma}
-use Rattle.edge_rows.specs.Rows.{IsRowOf, IsWeight, Said, Say, SaysEdges, arc_fields, comma_fields_in, fields_of, is_head, is_heading, is_letter, is_problem, lead, parts_at, related, says_nothing, scale_of, word_fields, words_of}
+use Rattle.edge_rows.specs.Rows.{IsAlone, IsPlain, Said, alone, arc_fields, are_some, each_of, fields_of, form_at, form_by, form_in, is_head, is_heading, is_letter, is_problem, lead, parts_at, related, relation_parts, row_said, line_says, says_nothing, scale_of, with_item, words_of}
 
 -- what a line of a form shows
 abbrev shown : Writing → Option Writing
@@ -21,90 +18,71 @@ shown Relations = Some Relations
 
 -- ---- words
 
-letter_not : (word : List ℕ) (m n : ℕ) → is_letter m word ≡ true → (m == n) ≡ false → is_letter n word ≡ false
-letter_not [] m n is other = absurd (cc)
-letter_not (x ∷ []) m n is other = ap (λ (k : ℕ). k == n) ((Decides-eqb x m).0 is) ∙ other
-letter_not (x ∷ y ∷ ys) m n is other = absurd (cc)
+-- what words show that are no arc and no problem line
+abbrev shown_else : List (List ℕ) → Option Writing
+shown_else words = cond (are_some (related (relation_parts words)) && not (says_nothing Relations words)) (Some Relations) None
 
-comment_not : (word : List ℕ) (n : ℕ) → begins_comment word ≡ true → (35 == n) ≡ false → is_letter n word ≡ false
-comment_not [] n is other = absurd (cc)
-comment_not (x ∷ []) n is other = ap (λ (k : ℕ). k == n) ((Decides-eqb x 35).0 is) ∙ other
-comment_not (x ∷ y ∷ ys) n is other = refl
-
-mark_shows : (mark a b c : List ℕ) → is_letter 97 mark ≡ false → is_letter 112 mark ≡ false → form_by (mark ∷ a ∷ b ∷ c ∷ []) ≡ None
-mark_shows mark a b c arc problem =
-    ap (λ (t : Bool). cond (t || (is_letter 112 mark && str_eq_ignore_ascii_case a (codes "sp") && are_digits c)) (Some Dimacs) None) arc
-    ∙ ap (λ (t : Bool). cond (t && str_eq_ignore_ascii_case a (codes "sp") && are_digits c) (Some Dimacs) None) problem
+none_silent : (r : Bool) → cond (r && false) (Some Relations) None ≡ None
+none_silent true = refl
+none_silent false = refl
 
 comment_shows : (words : List (List ℕ)) → says_nothing Relations words ≡ true → form_by words ≡ None
 comment_shows [] is = refl
-comment_shows (a ∷ []) is = ap (λ (t : Bool). cond (not t && are_some (related (parts_at 124 a))) (Some Relations) None) is
+comment_shows (a ∷ []) is = ap (λ (t : Bool). cond (are_some (related (parts_at 124 a)) && not t) (Some Relations) None) is ∙ none_silent (are_some (related (parts_at 124 a)))
 comment_shows (a ∷ b ∷ []) is = refl
 comment_shows (a ∷ b ∷ c ∷ []) is = refl
-comment_shows (a ∷ b ∷ c ∷ d ∷ []) is = mark_shows a b c d (comment_not a 97 is refl) (comment_not a 112 is refl)
+comment_shows ([] ∷ b ∷ c ∷ d ∷ []) is = absurd (cc)
+comment_shows ((x ∷ []) ∷ b ∷ c ∷ d ∷ []) is = ap (λ (k : ℕ). form_by ((k ∷ []) ∷ b ∷ c ∷ d ∷ [])) ((Decides-eqb x 35).0 is)
+comment_shows ((x ∷ y ∷ ys) ∷ b ∷ c ∷ d ∷ []) is = refl
 comment_shows (a ∷ b ∷ c ∷ d ∷ e ∷ more) is = refl
 
-alone_c : (word : List ℕ) → is_letter 99 word ≡ true → form_by (word ∷ []) ≡ None
-alone_c [] is = absurd (cc)
-alone_c (x ∷ []) is = subst (λ (k : ℕ). form_by ((k ∷ []) ∷ []) ≡ None) (sym ((Decides-eqb x 99).0 is)) refl
-alone_c (x ∷ y ∷ ys) is = absurd (cc)
+c_shows : (word : List ℕ) (words : List (List ℕ)) → is_letter 99 word ≡ true → form_by (word ∷ words) ≡ None
+c_shows [] words is = absurd (cc)
+c_shows (x ∷ y ∷ ys) words is = absurd (cc)
+c_shows (x ∷ []) words is = ap (λ (k : ℕ). form_by ((k ∷ []) ∷ words)) ((Decides-eqb x 99).0 is) ∙ by words where
+  by : (words : List (List ℕ)) → form_by ((99 ∷ []) ∷ words) ≡ None
+  by [] = refl
+  by (b ∷ []) = refl
+  by (b ∷ c ∷ []) = refl
+  by (b ∷ c ∷ d ∷ []) = refl
+  by (b ∷ c ∷ d ∷ e ∷ more) = refl
 
 silence_shows : (writing : Writing) (words : List (List ℕ)) → says_nothing writing words ≡ true → form_by words ≡ None
-silence_shows (Edges heading scale) [] is = refl
-silence_shows (Edges heading scale) (a ∷ more) is = comment_shows (a ∷ more) is
-silence_shows Relations words is = comment_shows words is
-silence_shows Dimacs [] is = refl
-silence_shows Dimacs (a ∷ []) is = alone_c a is
-silence_shows Dimacs (a ∷ b ∷ []) is = refl
-silence_shows Dimacs (a ∷ b ∷ c ∷ []) is = refl
-silence_shows Dimacs (a ∷ b ∷ c ∷ d ∷ []) is = mark_shows a b c d (letter_not a 99 97 is refl) (letter_not a 99 112 is refl)
-silence_shows Dimacs (a ∷ b ∷ c ∷ d ∷ e ∷ more) is = refl
+silence_shows writing [] is = refl
+silence_shows (Edges heading scale) (word ∷ words) is = comment_shows (word ∷ words) is
+silence_shows Relations (word ∷ words) is = comment_shows (word ∷ words) is
+silence_shows Dimacs (word ∷ words) is = c_shows word words is
 
-some_fields : (t : Bool) (xs ys : List (List ℕ)) (y : List ℕ) → cond t xs [] ≡ y ∷ ys → t ≡ true
-some_fields true xs ys y is = refl
-some_fields false xs ys y is = absurd (cc)
+edge_shows : (scale : Option ℕ) (line : ℕ) (words : List (List ℕ)) (said : Said) → row_said scale line words ≡ Some said → form_by words ≡ None
+edge_shows scale line [] said is = refl
+edge_shows scale line (a ∷ []) said is = absurd (cc)
+edge_shows scale line (a ∷ b ∷ []) said is = refl
+edge_shows scale line (a ∷ b ∷ c ∷ []) said is = refl
+edge_shows None line (a ∷ b ∷ c ∷ d ∷ []) said is = absurd (cc)
+edge_shows (Some scale) line (a ∷ b ∷ c ∷ d ∷ []) said is = absurd (cc)
+edge_shows scale line (a ∷ b ∷ c ∷ d ∷ e ∷ more) said is = refl
 
-arc_shows : (words behind : List (List ℕ)) (a b : List ℕ) → arc_fields words ≡ a ∷ b ∷ behind → form_by words ≡ Some Dimacs
-arc_shows [] behind a b is = absurd (cc)
-arc_shows (u ∷ []) behind a b is = absurd (cc)
-arc_shows (u ∷ v ∷ []) behind a b is = absurd (cc)
-arc_shows (u ∷ v ∷ w ∷ []) behind a b is = absurd (cc)
-arc_shows (u ∷ v ∷ w ∷ x ∷ []) behind a b is =
-    ap (λ (t : Bool). cond (t || is_problem (u ∷ v ∷ w ∷ x ∷ [])) (Some Dimacs) None) (some_fields (is_letter 97 u) (v ∷ w ∷ x ∷ []) (b ∷ behind) a is)
-arc_shows (u ∷ v ∷ w ∷ x ∷ y ∷ more) behind a b is = absurd (cc)
+some_fields : (line : ℕ) (fields : List (List ℕ)) (said : Said) → row_said None line fields ≡ Some said → are_some fields ≡ true
+some_fields line [] said is = absurd (cc)
+some_fields line (field ∷ fields) said is = refl
 
-relation_shows : (words behind : List (List ℕ)) (a b : List ℕ) → says_nothing Relations words ≡ false → word_fields Relations words ≡ a ∷ b ∷ behind → form_by words ≡ Some Relations
-relation_shows [] behind a b some is = absurd (cc)
-relation_shows (u ∷ []) behind a b some is =
-    ap (λ (t : Bool). cond (not t && are_some (related (parts_at 124 u))) (Some Relations) None) some ∙ ap (λ (l : List (List ℕ)). cond (are_some l) (Some Relations) None) is
-relation_shows (u ∷ v ∷ more) behind a b some is = absurd (cc)
+arc_shows : (line : ℕ) (words : List (List ℕ)) (said : Said) → row_said None line (arc_fields words) ≡ Some said → form_by words ≡ Some Dimacs
+arc_shows line words said is = ap (λ (t : Bool). cond (t || is_problem words) (Some Dimacs) (shown_else words)) (some_fields line (arc_fields words) said is)
 
-weighted_shows : (scale : Option ℕ) (words behind : List (List ℕ)) (a b : List ℕ) (weight : ℕ) → words ≡ a ∷ b ∷ behind → IsWeight scale weight behind → form_by words ≡ None
-weighted_shows None words behind a b weight is (inl p) = ap form_by (is ∙ ap (λ (l : List (List ℕ)). a ∷ b ∷ l) p.0)
-weighted_shows None words behind a b weight is (inr p) = ap form_by (is ∙ ap (λ (l : List (List ℕ)). a ∷ b ∷ l) p)
-weighted_shows (Some scale) words behind a b weight is (inl p) = ap form_by (is ∙ ap (λ (l : List (List ℕ)). a ∷ b ∷ l) p.0)
-weighted_shows (Some scale) words behind a b weight is (inr p) = ap form_by (is ∙ ap (λ (l : List (List ℕ)). a ∷ b ∷ l) p.1)
+problem_shows : (words : List (List ℕ)) → is_problem words ≡ true → form_by words ≡ Some Dimacs
+problem_shows words is = ap (λ (t : Bool). cond t (Some Dimacs) (shown_else words)) (or_right (are_some (arc_fields words)) (is_problem words) is)
 
-row_shows : (writing : Writing) (words : List (List ℕ)) (line : ℕ) (said : Said) → says_nothing writing words ≡ false → IsRowOf (scale_of writing) line (word_fields writing words) said → form_by words ≡ shown writing
-row_shows (Edges heading scale) words line said some row = weighted_shows scale words row.behind said.a said.b said.weight row.written row.weighted
-row_shows Dimacs words line said some row = arc_shows words row.behind said.a said.b row.written
-row_shows Relations words line said some row = relation_shows words row.behind said.a said.b some row.written
+relation_shows : (line : ℕ) (words : List (List ℕ)) (said : Said) → says_nothing Relations words ≡ false → row_said None line (related (relation_parts words)) ≡ Some said → form_by words ≡ Some Relations
+relation_shows line [] said some is = absurd (cc)
+relation_shows line (a ∷ []) said some is = ap₂ (λ (r s : Bool). cond (r && not s) (Some Relations) None) (some_fields line (related (parts_at 124 a)) said is) some
+relation_shows line (a ∷ b ∷ more) said some is = absurd (cc)
 
 heading_shows : (words : List (List ℕ)) → is_heading false words ≡ true → form_by words ≡ None
-heading_shows [] is = absurd (cc)
+heading_shows [] is = refl
 heading_shows (a ∷ []) is = absurd (cc)
 heading_shows (a ∷ b ∷ []) is = refl
 heading_shows (a ∷ b ∷ c ∷ []) is = refl
 heading_shows (a ∷ b ∷ c ∷ d ∷ more) is = absurd (cc)
-
-problem_shows : (words : List (List ℕ)) → is_problem words ≡ true → form_by words ≡ Some Dimacs
-problem_shows [] is = absurd (cc)
-problem_shows (a ∷ []) is = absurd (cc)
-problem_shows (a ∷ b ∷ []) is = absurd (cc)
-problem_shows (a ∷ b ∷ c ∷ []) is = absurd (cc)
-problem_shows (a ∷ b ∷ c ∷ d ∷ []) is =
-    ap (λ (t : Bool). cond (is_letter 97 a || t) (Some Dimacs) None) is ∙ ap (λ (t : Bool). cond t (Some Dimacs) None) (or_right (is_letter 97 a) true refl)
-problem_shows (a ∷ b ∷ c ∷ d ∷ e ∷ more) is = absurd (cc)
 
 -- ---- lines
 
@@ -114,13 +92,19 @@ silent_line writing text is = by (has_comma text) where
   by true = refl
   by false = silence_shows writing (words_of text) is
 
-row_line : (writing : Writing) (text : List ℕ) (line : ℕ) (said : Said) → says_nothing writing (words_of text) ≡ false → IsRowOf (scale_of writing) line (fields_of writing text) said → form_at text ≡ shown writing
-row_line writing text line said some row = by writing (has_comma text) some row where
-  by : (w : Writing) (c : Bool) → says_nothing w (words_of text) ≡ false → IsRowOf (scale_of w) line (cond c (comma_fields_in w text) (word_fields w (words_of text))) said → cond c None (form_by (words_of text)) ≡ shown w
-  by w false some row = row_shows w (words_of text) line said some row
-  by (Edges heading scale) true some row = refl
-  by Dimacs true some row = let bad : [] ≡ said.a ∷ said.b ∷ row.behind = row.written in absurd (cc)
-  by Relations true some row = let bad : [] ≡ said.a ∷ said.b ∷ row.behind = row.written in absurd (cc)
+row_line : (writing : Writing) (text : List ℕ) (line : ℕ) (said : Said) → says_nothing writing (words_of text) ≡ false → row_said (scale_of writing) line (fields_of writing text) ≡ Some said → form_at text ≡ shown writing
+row_line (Edges heading scale) text line said some is = by (has_comma text) is where
+  by : (c : Bool) → row_said scale line (cond c (comma_fields text) (words_of text)) ≡ Some said → cond c None (form_by (words_of text)) ≡ None
+  by true is = refl
+  by false is = edge_shows scale line (words_of text) said is
+row_line Dimacs text line said some is = by (has_comma text) is where
+  by : (c : Bool) → row_said None line (cond c [] (arc_fields (words_of text))) ≡ Some said → cond c None (form_by (words_of text)) ≡ Some Dimacs
+  by true is = absurd (cc)
+  by false is = arc_shows line (words_of text) said is
+row_line Relations text line said some is = by (has_comma text) is where
+  by : (c : Bool) → row_said None line (cond c [] (related (relation_parts (words_of text)))) ≡ Some said → cond c None (form_by (words_of text)) ≡ Some Relations
+  by true is = absurd (cc)
+  by false is = relation_shows line (words_of text) said some is
 
 head_line : (writing : Writing) (text : List ℕ) → IsPlain writing → is_head writing text ≡ true → form_at text ≡ shown writing
 head_line (Edges ByWords scale) text plain is = by (has_comma text) is where
@@ -137,51 +121,49 @@ head_line Relations text plain is = absurd (cc)
 
 -- ---- texts
 
-line_passed : (text : List ℕ) (texts : List (List ℕ)) → form_at text ≡ None → form_in (text ∷ texts) ≡ form_in texts
-line_passed text texts none = ap (λ (o : Option Writing). cond (is_some o) o (form_in texts)) none
-
-line_shows : (text : List ℕ) (texts : List (List ℕ)) (writing : Writing) → form_at text ≡ Some writing → form_in (text ∷ texts) ≡ Some writing
-line_shows text texts writing some = ap (λ (o : Option Writing). cond (is_some o) o (form_in texts)) some
-
--- what lines show that say edges in a form
+-- what lines show that say edges: their form, unless they say none and show none
 abbrev Shows : Writing → List Said → Option Writing → Type 0
-Shows (Edges heading scale) said form = form ≡ None
-Shows Dimacs said form = said ≢ [] → form ≡ Some Dimacs
-Shows Relations said form = said ≢ [] → form ≡ Some Relations
+Shows writing said form = (form ≡ shown writing) ⊎ ((said ≡ []) × (form ≡ None))
+
+first_shown : (text : List ℕ) (texts : List (List ℕ)) (form : Option Writing) → form_at text ≡ form → form_in (text ∷ texts) ≡ cond (is_some form) form (form_in texts)
+first_shown text texts form is = ap (λ (o : Option Writing). cond (is_some o) o (form_in texts)) is
 
 -- a line of the form, and more lines
-shown_first : (writing : Writing) (text : List ℕ) (texts : List (List ℕ)) (said rest : List Said) → form_at text ≡ shown writing → Shows writing rest (form_in texts) → Shows writing said (form_in (text ∷ texts))
-shown_first (Edges heading scale) text texts said rest is more = line_passed text texts is ∙ more
-shown_first Dimacs text texts said rest is more = λ _. line_shows text texts Dimacs is
-shown_first Relations text texts said rest is more = λ _. line_shows text texts Relations is
+form_goes_on : (writing : Writing) (text : List ℕ) (texts : List (List ℕ)) (all said : List Said) → form_at text ≡ shown writing → Shows writing all (form_in texts) → Shows writing said (form_in (text ∷ texts))
+form_goes_on (Edges heading scale) text texts all said is (inl none) = inl (first_shown text texts None is ∙ none)
+form_goes_on (Edges heading scale) text texts all said is (inr none) = inl (first_shown text texts None is ∙ none.1)
+form_goes_on Dimacs text texts all said is more = inl (first_shown text texts (Some Dimacs) is)
+form_goes_on Relations text texts all said is more = inl (first_shown text texts (Some Relations) is)
 
-lines_show : (writing : Writing) (before : ℕ) (texts : List (List ℕ)) (said : List Said) → Say writing before texts said → Shows writing said (form_in texts)
-lines_show (Edges heading scale) before [] said say = refl
-lines_show Dimacs before [] said say = λ some. absurd (some say)
-lines_show Relations before [] said say = λ some. absurd (some say)
-lines_show writing before (text ∷ texts) said (inl p) = subst (Shows writing said) (sym (line_passed text texts (silent_line writing text p.0))) (lines_show writing (before + 1) texts said p.1)
-lines_show writing before (text ∷ texts) said (inr p) =
-    shown_first writing text texts said p.1 (row_line writing text (before + 1) p.0 p.2 p.4) (lines_show writing (before + 1) texts p.1 p.5)
+lines_show : (writing : Writing) (n : ℕ) (said : List Said) (texts : List (List ℕ)) → each_of (line_says writing) n texts ≡ Ok said → Shows writing said (form_in texts)
+lines_show writing n said [] is = let same : said ≡ [] = cc in inr (same, refl)
+lines_show writing n said (text ∷ texts) is =
+    by (says_nothing writing (words_of text)) (row_said (scale_of writing) n (fields_of writing text)) (each_of (line_says writing) (n + 1) texts) refl refl (λ more. lines_show writing (n + 1) more texts) is where
+      by : (silent : Bool) (row : Option Said) (rest : Result (List Said) ℕ) → says_nothing writing (words_of text) ≡ silent → row_said (scale_of writing) n (fields_of writing text) ≡ row
+          → ((more : List Said) → rest ≡ Ok more → Shows writing more (form_in texts)) → with_item (cond silent (Some []) (alone row)) n rest ≡ Ok said → Shows writing said (form_in (text ∷ texts))
+      by true row (Ok more) none e shows is = subst (Shows writing said) (sym (first_shown text texts None (silent_line writing text none))) (shows said is)
+      by true row (Err k) none e shows is = absurd (cc)
+      by false None rest some e shows is = absurd (cc)
+      by false (Some row) (Ok more) some e shows is = form_goes_on writing text texts more said (row_line writing text n row some e) (shows more refl)
+      by false (Some row) (Err k) some e shows is = absurd (cc)
 
-text_shows : (writing : Writing) (before : ℕ) (texts : List (List ℕ)) (said : List Said) → IsPlain writing → Say writing before (drop (lead writing texts) texts) said → Shows writing said (form_in texts)
-text_shows writing before [] said plain say = lines_show writing before [] said say
-text_shows writing before (text ∷ texts) said plain say = by (says_nothing writing (words_of text)) (is_head writing text) refl refl say (λ more. text_shows writing before texts said plain more) where
-  by : (n h : Bool) → says_nothing writing (words_of text) ≡ n → is_head writing text ≡ h → Say writing before (drop (cond n (lead writing texts + 1) (cond h 1 0)) (text ∷ texts)) said
-      → (Say writing before (drop (lead writing texts) texts) said → Shows writing said (form_in texts)) → Shows writing said (form_in (text ∷ texts))
-  by true h silent head say rest =
+text_shows : (writing : Writing) (n : ℕ) (said : List Said) (texts : List (List ℕ)) → IsPlain writing → each_of (line_says writing) n (drop (lead writing texts) texts) ≡ Ok said → Shows writing said (form_in texts)
+text_shows writing n said [] plain is = lines_show writing n said [] is
+text_shows writing n said (text ∷ texts) plain is = by (says_nothing writing (words_of text)) (is_head writing text) refl refl is (text_shows writing n said texts plain) where
+  by : (silent head : Bool) → says_nothing writing (words_of text) ≡ silent → is_head writing text ≡ head → each_of (line_says writing) n (drop (cond silent (lead writing texts + 1) (cond head 1 0)) (text ∷ texts)) ≡ Ok said
+      → (each_of (line_says writing) n (drop (lead writing texts) texts) ≡ Ok said → Shows writing said (form_in texts)) → Shows writing said (form_in (text ∷ texts))
+  by true head none e is rest =
       let next : lead writing texts + 1 ≡ suc (lead writing texts) = omega arith in
-      subst (Shows writing said) (sym (line_passed text texts (silent_line writing text silent))) (rest (subst (λ (n : ℕ). Say writing before (drop n (text ∷ texts)) said) next say))
-  by false true silent head say rest = shown_first writing text texts said said (head_line writing text plain head) (lines_show writing before texts said say)
-  by false false silent head say rest = lines_show writing before (text ∷ texts) said say
+      subst (Shows writing said) (sym (first_shown text texts None (silent_line writing text none))) (rest (subst (λ (k : ℕ). each_of (line_says writing) n (drop k (text ∷ texts)) ≡ Ok said) next is))
+  by false true some e is rest = form_goes_on writing text texts said said (head_line writing text plain e) (lines_show writing n said texts is)
+  by false false some e is rest = lines_show writing n said (text ∷ texts) is
 
 -- the form that a text shows is the one in which it says edges
 pub form_alone : (text : List ℕ) (form : Option Writing) → form_in (lines_of text) ≡ form → IsAlone text (unwrap_or form (Edges ByWords None))
-form_alone text form is = by where
-  shows : (writing : Writing) (said : List Said) → IsPlain writing → SaysEdges writing text said → Shows writing said form
-  shows writing said plain says = subst (Shows writing said) is (text_shows writing (lead writing (lines_of text)) (lines_of text) said plain says)
-
-  by : (writing : Writing) (said : List Said) → IsPlain writing → SaysEdges writing text said → said ≢ [] → writing ≡ unwrap_or form (Edges ByWords None)
-  by (Edges heading scale) said plain says some =
-      ap (λ h. Edges h scale) plain.0 ∙ ap (Edges ByWords) plain.1 ∙ ap (λ (o : Option Writing). unwrap_or o (Edges ByWords None)) (sym (shows (Edges heading scale) said plain says))
-  by Dimacs said plain says some = ap (λ (o : Option Writing). unwrap_or o (Edges ByWords None)) (sym (shows Dimacs said plain says some))
-  by Relations said plain says some = ap (λ (o : Option Writing). unwrap_or o (Edges ByWords None)) (sym (shows Relations said plain says some))
+form_alone text form is writing said plain says some = by writing plain (text_shows writing (lead writing (lines_of text) + 1) said (lines_of text) plain says) where
+  by : (w : Writing) → IsPlain w → Shows w said (form_in (lines_of text)) → w ≡ unwrap_or form (Edges ByWords None)
+  by w plain (inr none) = absurd (some none.0)
+  by (Edges heading scale) plain (inl shows) =
+      ap (λ h. Edges h scale) plain.0 ∙ ap (Edges ByWords) plain.1 ∙ ap (λ (o : Option Writing). unwrap_or o (Edges ByWords None)) (sym shows ∙ is)
+  by Dimacs plain (inl shows) = ap (λ (o : Option Writing). unwrap_or o (Edges ByWords None)) (sym shows ∙ is)
+  by Relations plain (inl shows) = ap (λ (o : Option Writing). unwrap_or o (Edges ByWords None)) (sym shows ∙ is)

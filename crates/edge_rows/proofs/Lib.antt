@@ -1,5 +1,4 @@
 pub mod RowLemmas
-pub mod ScaleLemmas
+pub mod WeightLemmas
 pub mod RecordLemmas
-pub mod NodeLemmas
 pub mod ApartLemmas

@@ -1,47 +1,16 @@
 -- Records of CSV, one behind another.
-use Rattle.std.proofs.Common.{arith, ◌≡◌, ◌+◌, ◌∙◌, inl, sym, ap, subst, refl, ℕ, zero, suc, List, [], ◌∷◌, ◌++◌, Bool, true, cond, length, map, drop, Option, Some, None, Bor}
-use Rattle.std.specs.Prelude.{◌&&◌, ◌||◌, is_some, not}
-use Rattle.std.specs.List.{list_any, zip}
+use Rattle.std.proofs.Common.{◌≡◌, ◌+◌, ◌∙◌, ◌<◌, sym, ap, subst, refl, ℕ, List, [], ◌∷◌, ◌++◌, Bool, cond, length, take, Option, Some, None, Bor}
+use Rattle.std.specs.Prelude.{◌&&◌, is_some, not}
+use Rattle.std.specs.Option.{option_map}
+use Rattle.std.proofs.lemmas.List.{take_more}
+use Rattle.csv.proofs.RecordFacts.{field-get, field-there}
 use Rattle.csv.specs.Machine.{Read, next_record}
-use Rattle.csv.specs.Reading.{NextIs, ReadRecord, ReadsNext, default_config, pending_of, source_of, strip_bom, took_first}
-use Rattle.csv.specs.Records.{field_at, trimmed}
-use Rattle.csv.specs.declared.parser.Config.{Config}
+use Rattle.csv.specs.Reading.{strip_bom}
+use Rattle.csv.specs.Records.{field_at}
 use Rattle.csv.specs.declared.parser.State.{State}
 use Rattle.csv.specs.declared.parser.State.TheVariants.{StartRecord}
 use Rattle.csv.specs.declared.reader.Reader.{Reader}
-use Rattle.edge_rows.specs.Labels.{begins}
-use Rattle.edge_rows.specs.Records.{GivesNext, StandsAt, before_last, first_of_two, hides_quote, left_of, next, raw_fields}
-
--- ---- one reading
-
-by_left : (cfg : Config) (s : State) (text : List ℕ) (k : Option (List ℕ)) (found : Bool) (fields : List (List ℕ)) (s2 : State) → ReadsNext cfg s (Some text) k found fields s2
-    → (ys : List ℕ) × (k ≡ Some ys) × NextIs (next_record cfg s [] [] text) found fields s2 ys
-by_left cfg s text None found fields s2 reads = absurd reads
-by_left cfg s text (Some ys) found fields s2 reads = (ys, refl, reads)
-
-checked_source : (r : Reader (Bor (List ℕ))) → r.bom_checked ≡ true → source_of left_of r ≡ pending_of (left_of r.rdr) r
-checked_source r is = rw is refl
-
--- what a reading gives, where the reader stood at a text
-pub gives_next : (old new : Reader (Bor (List ℕ))) (state : State) (text : List ℕ) (found : Bool) (fields : List (List ℕ)) → StandsAt old state text → took_first new ≡ true → ReadRecord left_of old new found fields
-    → GivesNext (next state text) found fields new
-gives_next old new state text found fields at first reads =
-    let here : ReadsNext default_config state (Some text) (pending_of (left_of new.rdr) new) found fields new.state = rw (at.config, at.state, at.left) at reads.0 in
-    let left = by_left default_config state text (pending_of (left_of new.rdr) new) found fields new.state here in
-    by (next state text) left.0 (checked_source new reads.1 ∙ left.1) left.2 where
-      by : (o : Option Read) (ys : List ℕ) → source_of left_of new ≡ Some ys → NextIs o found fields new.state ys → GivesNext o found fields new
-      by None ys source is = is
-      by (Some p) ys source is = (
-        is.0,
-        is.1,
-        record {
-          config = reads.2 ∙ at.config;
-          trim = reads.3 ∙ at.trim;
-          ready = inl first;
-          state = is.2;
-          left = source ∙ ap (λ (l : List ℕ). Some l) is.3;
-        },
-      )
+use Rattle.edge_rows.specs.Records.{GivesNext, StandsAt, before_last, first_of_two, next, raw_fields}
 
 -- ---- three readings
 
@@ -82,27 +51,9 @@ line_read reader r t u text bytes f g h one x y z is at first second third same 
 
 -- ---- fields
 
--- the fields that an iterator over a record has left, where it stands at a place
-pub none_left : (xs : List (List ℕ)) (i : ℕ) → None ≡ field_at xs i → length (drop i xs) ≡ 0
-unfolding field_at
-none_left [] zero none = refl
-none_left [] (suc i) none = refl
-none_left (x ∷ xs) zero none = absurd (cc)
-none_left (x ∷ xs) (suc i) none = none_left xs i none
+-- the field at a place is one more
+pub field_more : (xs : List (List ℕ)) (i : ℕ) (o : Option (Bor (List ℕ))) (x : Bor (List ℕ)) → i < length xs → option_map (λ x. x.now) o ≡ field_at xs i → o ≡ Some x → take (i + 1) xs ≡ take i xs ++ x.now ∷ []
+field_more xs i o x lt at is = take_more xs i [] lt ∙ ap (λ (y : List ℕ). take i xs ++ y ∷ []) (field-get xs i x.now (sym at ∙ ap (option_map (λ (x : Bor (List ℕ)). x.now)) is))
 
-one_left : (xs : List (List ℕ)) (i : ℕ) (x : List ℕ) → Some x ≡ field_at xs i → drop i xs ≡ x ∷ drop (suc i) xs
-unfolding field_at
-one_left [] i x is = absurd (cc)
-one_left (y ∷ ys) zero x is = let same : y ≡ x = cc in ap (λ (f : List ℕ). f ∷ ys) same
-one_left (y ∷ ys) (suc i) x is = one_left ys i x is
-
--- and behind it at the next
-pub next_left : (xs ys : List (List ℕ)) (i j : ℕ) (x : List ℕ) → Some x ≡ field_at xs i → ys ≡ xs → j ≡ i + 1 → drop i xs ≡ x ∷ drop j ys
-next_left xs ys i j x is same at =
-    let next : suc i ≡ j = omega (arith, at) in
-    one_left xs i x is ∙ ap (λ (n : ℕ). x ∷ drop n xs) next ∙ ap (λ (l : List (List ℕ)). x ∷ drop j l) (sym same)
-
--- whether a field hides a quotation mark, by the fields with blanks and without
-pub hides_any : (raw : List (List ℕ)) → list_any (λ p. begins 34 p.0 && not (begins 34 p.1)) (zip (map trimmed raw) raw) ≡ list_any hides_quote raw
-hides_any [] = refl
-hides_any (x ∷ xs) = ap (λ (b : Bool). hides_quote x || b) (hides_any xs)
+pub no_field : (xs : List (List ℕ)) (i : ℕ) (o : Option (Bor (List ℕ))) → i < length xs → option_map (λ x. x.now) o ≡ field_at xs i → o ≡ None → ⊥
+no_field xs i o lt at none = field-there xs i lt (sym at ∙ ap (option_map (λ (x : Bor (List ℕ)). x.now)) none)

@@ -29,10 +29,6 @@ abbrev pub begins : ℕ → List ℕ → Bool
 begins c [] = false
 begins c (b ∷ bs) = b == c
 
--- the word begins with `#`
-abbrev pub begins_comment : List ℕ → Bool
-begins_comment word = begins 35 word
-
 -- what separates lines, words and fields: a line feed, a tab, a carriage return, a blank or a comma
 abbrev pub separates : ℕ → Bool
 separates b = (b == 10) || ((b == 9) || ((b == 13) || ((b == 32) || (b == 44))))
@@ -41,7 +37,7 @@ separates b = (b == 10) || ((b == 9) || ((b == 13) || ((b == 32) || (b == 44))))
 pub record IsLabel (word : List ℕ) : Type 0 where
   pub name : is_name word ≡ true
   pub plain : All (λ b. separates b ≡ false) word
-  pub silent : begins_comment word ≡ false
+  pub silent : begins 35 word ≡ false
 
 -- all names may
 abbrev pub AreLabels : List (Bor (List ℕ)) → Type 0

@@ -1,5 +1,4 @@
 pub mod Labels
 pub mod Records
 pub mod Rows
-pub mod Apart
 pub mod Reading

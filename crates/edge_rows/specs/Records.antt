@@ -2,6 +2,7 @@
 use Rattle.std.specs.Prelude.{◌≡◌, ◌==◌, ◌++◌, ◌&&◌, ℕ, List, [], ◌∷◌, Bool, true, false, not, cond, Option, Some, None, is_some, map}
 use Rattle.std.specs.List.{list_any}
 use Rattle.std.specs.Borrow.{Bor}
+use Rattle.std.specs.Char.{is_ascii_whitespace}
 use Rattle.csv.specs.Machine.{Read, next_record}
 use Rattle.csv.specs.Reading.{Ready, default_config, reader_config, reader_state, reader_trim, source_of}
 use Rattle.csv.specs.Records.{trimmed}
@@ -34,9 +35,14 @@ first_of_two (Some first) = before_last first.0 (next first.1 first.2)
 abbrev pub raw_fields : List ℕ → List (List ℕ)
 raw_fields text = first_of_two (next StartRecord (text ++ 10 ∷ 44 ∷ 10 ∷ []))
 
+-- behind its blanks a field begins with a quotation mark
+abbrev pub begins_quoted : List ℕ → Bool
+begins_quoted [] = false
+begins_quoted (b ∷ bs) = cond (is_ascii_whitespace b) (begins_quoted bs) (b == 34)
+
 -- blanks stand before the quotation mark of a field
 abbrev pub hides_quote : List ℕ → Bool
-hides_quote field = begins 34 (trimmed field) && not (begins 34 field)
+hides_quote field = begins_quoted field && not (begins 34 field)
 
 -- the fields of a line with a comma: those of its record without the blanks around them; none where one hides a quotation mark
 abbrev pub comma_fields : List ℕ → List (List ℕ)

@@ -1,8 +1,9 @@
 -- What the lines of a list of edges say, in each form.
-use Rattle.std.specs.Prelude.{◌≡◌, ◌⊎◌, ◌==◌, ◌<◌, ◌≤◌, ◌+◌, ◌-◌, ◌*◌, ◌/◌, ◌^◌, ◌&&◌, ◌||◌, ℕ, List, [], ◌∷◌, ◌++◌, Bool, true, false, not, Option, Some, None, codes, cond, decimal, drop, length, nat_le, take}
+use Rattle.std.specs.Prelude.{◌≡◌, ◌≢◌, ◌==◌, ◌+◌, ◌-◌, ◌*◌, ◌/◌, ◌^◌, ◌&&◌, ◌||◌, ℕ, List, [], ◌∷◌, ◌++◌, Bool, true, false, not, Option, Some, None, Result, Ok, Err, codes, cond, decimal, drop, is_some, length, nat_le, unwrap_or}
+use Rattle.std.specs.Char.{is_ascii_digit}
 use Rattle.std.specs.List.{flat_map, slice_get, slice_split}
 use Rattle.std.specs.Option.{option_and_then}
-use Rattle.std.specs.Str.{str_eq_ignore_ascii_case}
+use Rattle.std.specs.Str.{bytes_eq, str_eq_ignore_ascii_case}
 use Rattle.std.specs.Str.Parse.{digits_value}
 use Rattle.std.specs.String.{string_bytes}
 use Rattle.value_syntax.specs.Scripts.{lines_of}
@@ -12,7 +13,7 @@ use Rattle.edge_rows.specs.declared.forms.Writing.TheVariants.{Edges, Dimacs, Re
 use Rattle.edge_rows.specs.declared.forms.Heading.TheVariants.{ByWords, There, Absent}
 use Rattle.edge_rows.specs.declared.reading.Read.{Read}
 use Rattle.edge_rows.specs.declared.reading.Read.TheVariants.{Nothing, Row as ReadRow, Refused}
-use Rattle.edge_rows.specs.Labels.{are_digits, begins_comment, begins_mark, is_name}
+use Rattle.edge_rows.specs.Labels.{are_digits, begins, begins_mark, is_name}
 use Rattle.edge_rows.specs.Records.{comma_fields, has_comma}
 
 -- ---- the fields of a line
@@ -57,21 +58,11 @@ abbrev pub relation_parts : List (List ℕ) → List (List ℕ)
 relation_parts (word ∷ []) = parts_at 124 word
 relation_parts words = []
 
--- the fields of a line without commas, by its words: all of them in an edge list, an arc's in DIMACS, two networks in relations
-abbrev pub word_fields : Writing → List (List ℕ) → List (List ℕ)
-word_fields (Edges heading scale) words = words
-word_fields Dimacs words = arc_fields words
-word_fields Relations words = related (relation_parts words)
-
--- the fields of a line with commas: those of its record in an edge list; the other forms have no such line
-abbrev pub comma_fields_in : Writing → List ℕ → List (List ℕ)
-comma_fields_in (Edges heading scale) text = comma_fields text
-comma_fields_in Dimacs text = []
-comma_fields_in Relations text = []
-
--- the fields of a line
+-- the fields of a line: of an edge list its words, or where it has a comma those of its record; else an arc's, or two networks
 abbrev pub fields_of : Writing → List ℕ → List (List ℕ)
-fields_of writing text = cond (has_comma text) (comma_fields_in writing text) (word_fields writing (words_of text))
+fields_of (Edges heading scale) text = cond (has_comma text) (comma_fields text) (words_of text)
+fields_of Dimacs text = cond (has_comma text) [] (arc_fields (words_of text))
+fields_of Relations text = cond (has_comma text) [] (related (relation_parts (words_of text)))
 
 -- ---- lines that say nothing
 
@@ -79,17 +70,13 @@ fields_of writing text = cond (has_comma text) (comma_fields_in writing text) (w
 abbrev pub says_nothing : Writing → List (List ℕ) → Bool
 says_nothing writing [] = true
 says_nothing Dimacs (word ∷ words) = is_letter 99 word
-says_nothing (Edges heading scale) (word ∷ words) = begins_comment word
-says_nothing Relations (word ∷ words) = begins_comment word
+says_nothing (Edges heading scale) (word ∷ words) = begins 35 word
+says_nothing Relations (word ∷ words) = begins 35 word
 
--- a number may begin so: with a digit, a sign or a point
-abbrev pub is_numeric : ℕ → Bool
-is_numeric b = (nat_le 48 b && nat_le b 57) || (b == 43) || (b == 45) || (b == 46)
-
--- the field begins as no number does
+-- the field begins as no number does: with no digit, sign or point
 abbrev pub begins_as_name : List ℕ → Bool
 begins_as_name [] = false
-begins_as_name (b ∷ bs) = not (is_numeric b)
+begins_as_name (b ∷ bs) = not (is_ascii_digit b) && not (b == 43) && not (b == 45) && not (b == 46)
 
 -- words for the two ends of an edge, in either case
 abbrev pub heads_ends : List ℕ → List ℕ → Bool
@@ -204,56 +191,106 @@ scaled_parts scale (whole ∷ []) = scaled_digits scale whole []
 scaled_parts scale (whole ∷ part ∷ []) = scaled_digits scale whole part
 scaled_parts scale parts = None
 
--- The weight that stands behind the ends, or 1 if nothing does: as it is, or where there is a scale a decimal number that is multiplied.
-abbrev pub IsWeight : Option ℕ → ℕ → List (List ℕ) → Type 0
-IsWeight None weight fields = ((fields ≡ []) × (weight ≡ 1)) ⊎ (fields ≡ decimal weight ∷ [])
-IsWeight (Some scale) weight fields = ((fields ≡ []) × (weight ≡ scale)) ⊎ ((word : List ℕ) × (fields ≡ word ∷ []) × (scaled_parts scale (parts_at 46 word) ≡ Some weight))
+-- the number, where it is below 2 ^ 32, and so that of a word
+abbrev pub if_small : Option ℕ → Option ℕ
+if_small None = None
+if_small (Some weight) = cond (nat_le weight 4294967295) (Some weight) None
 
--- these fields say that: both ends are names, and the weight fits its type
-pub record IsRowOf (scale : Option ℕ) (line : ℕ) (fields : List (List ℕ)) (said : Said) : Type 0 where
-  pub number : said.line ≡ line
-  pub first : is_name said.a ≡ true
-  pub second : is_name said.b ≡ true
-  pub fits : said.weight < 2 ^ 32
-  pub behind : List (List ℕ)
-  pub written : fields ≡ said.a ∷ said.b ∷ behind
-  pub weighted : IsWeight scale said.weight behind
+abbrev pub scaled_weight : ℕ → List ℕ → Option ℕ
+scaled_weight scale word = if_small (scaled_parts scale (parts_at 46 word))
 
--- no edge is written so
-abbrev pub IsNoRow : Option ℕ → List (List ℕ) → Type 0
-IsNoRow scale fields = (line : ℕ) (said : Said) → IsRowOf scale line fields said → ⊥
+-- the number below 2 ^ 32 that the word is the plain decimal form of: that which its digits write
+abbrev pub plain_weight : List ℕ → Option ℕ
+plain_weight word = cond (bytes_eq word (decimal (digits_value 10 word))) (if_small (Some (digits_value 10 word))) None
 
--- these lines, of which the first has the number behind `before`, say that
-abbrev pub Say : Writing → ℕ → List (List ℕ) → List Said → Type 0
-Say writing before [] said = said ≡ []
-Say writing before (text ∷ texts) said =
-    ((says_nothing writing (words_of text) ≡ true) × Say writing (before + 1) texts said)
-    ⊎ ((first : Said) × (rest : List Said) × (says_nothing writing (words_of text) ≡ false) × (said ≡ first ∷ rest) × IsRowOf (scale_of writing) (before + 1) (fields_of writing text) first × Say writing (before + 1) texts rest)
+-- the weight that stands behind the ends, or 1 if nothing does: as it is, or where there is a scale multiplied
+abbrev pub weight_said : Option ℕ → List (List ℕ) → Option ℕ
+weight_said scale [] = Some (unwrap_or scale 1)
+weight_said None (word ∷ []) = plain_weight word
+weight_said (Some scale) (word ∷ []) = scaled_weight scale word
+weight_said scale (a ∷ b ∷ more) = None
 
--- Line n is the first that says no edge: the lines before it say edges, and no edges are said by the lines up to it,
--- whatever the lines behind it are.
-pub record IsFirstRefused (writing : Writing) (before : ℕ) (texts : List (List ℕ)) (n : ℕ) : Type 0 where
-  pub behind : before < n
-  pub within : n ≤ before + length texts
-  pub said : (said : List Said) × Say writing before (take (n - (before + 1)) texts) said
-  pub refused : (more : List (List ℕ)) (said : List Said) → Say writing before (take (n - before) texts ++ more) said → ⊥
+-- what a line of that number says by its ends and its weight, where there is one and both ends are names
+abbrev pub row_by : ℕ → List ℕ → List ℕ → Option ℕ → Option Said
+row_by line a b None = None
+row_by line a b (Some weight) = cond (is_name a && is_name b) (Some (record { line = line; a = a; b = b; weight = weight })) None
+
+-- the same by its fields: two ends, and the weight behind them
+abbrev pub row_said : Option ℕ → ℕ → List (List ℕ) → Option Said
+row_said scale line (a ∷ b ∷ behind) = row_by line a b (weight_said scale behind)
+row_said scale line fields = None
+
+-- these in front of others, unless those are refused
+abbrev pub in_front : {B : Type 0} → List B → Result (List B) ℕ → Result (List B) ℕ
+in_front made (Ok more) = Ok (made ++ more)
+in_front made (Err number) = Err number
+
+-- what is made of an item, in front of what is made of those behind it; or its number, where it is refused
+abbrev pub with_item : {B : Type 0} → Option (List B) → ℕ → Result (List B) ℕ → Result (List B) ℕ
+with_item None number behind = Err number
+with_item (Some made) number behind = in_front made behind
+
+-- what f makes of each of these, one behind another, where they are numbered from that number on; or the number of the first that it refuses
+abbrev pub each_of : {A B : Type 0} → (ℕ → A → Option (List B)) → ℕ → List A → Result (List B) ℕ
+each_of f number [] = Ok []
+each_of f number (x ∷ xs) = with_item (f number x) number (each_of f (number + 1) xs)
+
+-- one thing, where it is there
+abbrev pub alone : {B : Type 0} → Option B → Option (List B)
+alone None = None
+alone (Some x) = Some (x ∷ [])
+
+-- what the line of that number says: nothing, or an edge; it is refused, where it says no edge though it should
+abbrev pub line_says : Writing → ℕ → List ℕ → Option (List Said)
+line_says writing line text = cond (says_nothing writing (words_of text)) (Some []) (alone (row_said (scale_of writing) line (fields_of writing text)))
+
+-- what the lines of a text say behind those that stand in front of edges, or the number of the first that is refused
+abbrev pub text_says : Writing → List ℕ → Result (List Said) ℕ
+text_says writing text = each_of (line_says writing) (lead writing (lines_of text) + 1) (drop (lead writing (lines_of text)) (lines_of text))
 
 -- the text is a list of edges in this form, and says that
 abbrev pub SaysEdges : Writing → List ℕ → List Said → Type 0
-SaysEdges writing text said = Say writing (lead writing (lines_of text)) (drop (lead writing (lines_of text)) (lines_of text)) said
+SaysEdges writing text said = text_says writing text ≡ Ok said
 
--- no edges are said by the text up to the line of that number, whose lines before say edges
+-- the line of that number is the first of the text that says no edge, though it should
 abbrev pub IsRefusedAt : Writing → List ℕ → ℕ → Type 0
-IsRefusedAt writing text number = IsFirstRefused writing (lead writing (lines_of text)) (drop (lead writing (lines_of text)) (lines_of text)) number
+IsRefusedAt writing text number = text_says writing text ≡ Err number
 
--- what a line of these fields is read as, where it says something
-abbrev pub IsEdgeRead : Option ℕ → ℕ → List (List ℕ) → Read → Type 0
-IsEdgeRead scale line fields Nothing = ⊥
-IsEdgeRead scale line fields (ReadRow row) = IsRowOf scale line fields (row_of row)
-IsEdgeRead scale line fields (Refused form) = IsNoRow scale fields
+-- what a line says that was read
+abbrev pub said_by : Read → Option (List Said)
+said_by Nothing = Some []
+said_by (ReadRow row) = Some (row_of row ∷ [])
+said_by (Refused form) = None
 
--- what one line of a text is read as
-abbrev pub IsReadAs : Writing → ℕ → List ℕ → Read → Type 0
-IsReadAs writing line text Nothing = says_nothing writing (words_of text) ≡ true
-IsReadAs writing line text (ReadRow row) = (says_nothing writing (words_of text) ≡ false) × IsRowOf (scale_of writing) line (fields_of writing text) (row_of row)
-IsReadAs writing line text (Refused form) = (says_nothing writing (words_of text) ≡ false) × IsNoRow (scale_of writing) (fields_of writing text)
+-- ---- how the forms are told apart
+
+-- some fields are there
+abbrev pub are_some : List (List ℕ) → Bool
+are_some [] = false
+are_some (field ∷ fields) = true
+
+-- The form that a line shows by its words, where it is no edge list's: those of an arc or a problem line, or one word in the
+-- parts of a relation, which is no comment.
+abbrev pub form_by : List (List ℕ) → Option Writing
+form_by words =
+    cond (are_some (arc_fields words) || is_problem words) (Some Dimacs)
+    (cond (are_some (related (relation_parts words)) && not (says_nothing Relations words)) (Some Relations) None)
+
+-- the same of a line, which has no comma
+abbrev pub form_at : List ℕ → Option Writing
+form_at text = cond (has_comma text) None (form_by (words_of text))
+
+-- the form that lines show first
+abbrev pub form_in : List (List ℕ) → Option Writing
+form_in [] = None
+form_in (text ∷ texts) = cond (is_some (form_at text)) (form_at text) (form_in texts)
+
+-- a header is known by its words, and weights aren't multiplied
+abbrev pub IsPlain : Writing → Type 0
+IsPlain (Edges heading scale) = (heading ≡ ByWords) × (scale ≡ None)
+IsPlain Dimacs = Unit {0}
+IsPlain Relations = Unit {0}
+
+-- in no other form the text says edges
+abbrev pub IsAlone : List ℕ → Writing → Type 0
+IsAlone text form = (writing : Writing) (said : List Said) → IsPlain writing → SaysEdges writing text said → said ≢ [] → writing ≡ form

@@ -1,17 +1,15 @@
-// The forms of lists of edges: what a line of each is.
-ghost use Rattle.std.specs.Prelude.{◌≡◌, IfOk, codes};
+// The forms of lists of edges: what a line of each is, and how they are told apart.
+ghost use Rattle.std.specs.Prelude.{◌≡◌, IfOk};
 ghost use Rattle.std.specs.Option.{option_map};
 ghost use Rattle.std.specs.Str.{str_eq_ignore_ascii_case};
-ghost use Rattle.csv.specs.Records.{fields_of as record_fields};
 ghost use Rattle.value_syntax.specs.Reading.{texts_of};
-ghost use Rattle.edge_rows.specs.Rows.{arc_fields, fields_of, is_letter, is_problem, is_relation, nodes_word, related, relation_parts, says_nothing, scale_of, word_fields};
+ghost use Rattle.edge_rows.specs.Rows.{IsAlone, arc_fields, form_at, form_by, is_letter, is_problem, is_relation, nodes_word, related, relation_parts, says_nothing, scale_of, words_of};
 
 use crate::Tried;
+use crate::fields::{has_comma, parts_in, words_in};
 use crate::name::{are_digits, begins};
-use crate::records::{has_comma, record_in};
-use crate::words::{parts_in, words_in};
-use csv::StringRecord;
 use std::alloc::Global;
+use value_syntax::lines_in;
 
 /// Which line is a header: none but the first that says something.
 #[derive(Clone, Copy, Debug, PartialEq, Eq, Drop)]
@@ -63,8 +61,8 @@ pub(crate) fn reads_as(text: &str, word: &str) -> bool
     text.eq_ignore_ascii_case(word)
 }
 
-/// Whether a line of these words says nothing.
-pub(crate) fn is_nothing(writing: Writing, words: &[&str]) -> bool
+// Whether a line of these words says nothing.
+fn is_nothing(writing: Writing, words: &[&str]) -> bool
     ensures { result ≡ says_nothing writing (texts_of words.now) }
 {
     match words.first() {
@@ -75,6 +73,14 @@ pub(crate) fn is_nothing(writing: Writing, words: &[&str]) -> bool
             Writing::Relations => begins(b'#', word.as_bytes()),
         },
     }
+}
+
+/// Whether a line says nothing.
+pub(crate) fn is_silent(alloc: Global, writing: Writing, text: &str) -> Tried<bool>
+    ensures { IfOk result (λ is. is ≡ says_nothing writing (words_of text.now)) }
+{
+    let words = words_in(alloc, text)?;
+    Ok(is_nothing(writing, &words))
 }
 
 /// Whether these are the words of a problem line.
@@ -99,8 +105,8 @@ pub(crate) fn nodes_word<'a>(words: &[&'a str]) -> Option<&'a str>
     }
 }
 
-// The three words behind the `a` of a line of DIMACS.
-fn arc_fields<'a, 'b>(words: &'a [&'b str]) -> &'a [&'b str]
+/// The three words behind the `a` of a line of DIMACS.
+pub(crate) fn arc_fields<'a, 'b>(words: &'a [&'b str]) -> &'a [&'b str]
     ensures { texts_of result.now ≡ arc_fields (texts_of words.entry.now) }
 {
     match words {
@@ -141,31 +147,43 @@ pub(crate) fn related<'a, 'b>(parts: &'a [&'b str]) -> &'a [&'b str]
     }
 }
 
-// The fields of a line without commas, by its words.
-fn word_fields(alloc: Global, writing: Writing, words: &[&str]) -> Tried<StringRecord>
-    ensures { IfOk result (λ row. record_fields row ≡ word_fields writing (texts_of words.now)) }
+// The form that a line shows by its words, where it is no edge list's.
+fn form_by(alloc: Global, words: &[&str]) -> Tried<Option<Writing>>
+    ensures { IfOk result (λ form. form ≡ form_by (texts_of words.now)) }
 {
-    match writing {
-        Writing::Edges(..) => StringRecord::from_fields(alloc, words),
-        Writing::Dimacs => StringRecord::from_fields(alloc, arc_fields(words)),
-        Writing::Relations => {
-            let parts = relation_parts(alloc, words)?;
-            StringRecord::from_fields(alloc, related(&parts))
-        }
+    if !arc_fields(words).is_empty() || is_problem(words) {
+        return Ok(Some(Writing::Dimacs));
     }
+    let parts = relation_parts(alloc, words)?;
+    if !related(&parts).is_empty() && !is_nothing(Writing::Relations, words) {
+        return Ok(Some(Writing::Relations));
+    }
+    Ok(None)
 }
 
-/// The fields of a line.
-pub(crate) fn fields_in(alloc: Global, writing: Writing, text: &str) -> Tried<StringRecord>
-    ensures { IfOk result (λ row. record_fields row ≡ fields_of writing text.now) }
+// The same of a line.
+fn form_at(alloc: Global, text: &str) -> Tried<Option<Writing>>
+    ensures { IfOk result (λ form. form ≡ form_at text.now) }
 {
-    if !has_comma(text) {
-        let words = words_in(alloc, text)?;
-        return word_fields(alloc, writing, &words);
+    if has_comma(text) {
+        return Ok(None);
     }
-    match writing {
-        Writing::Edges(..) => record_in(alloc, text),
-        Writing::Dimacs => Ok(StringRecord::new(alloc)),
-        Writing::Relations => Ok(StringRecord::new(alloc)),
+    let words = words_in(alloc, text)?;
+    let form = form_by(alloc, &words)?;
+    Ok(form)
+}
+
+/// The form of the first line that no edge list has, and an edge list where all lines may be one's: a text that says edges in
+/// lines says them in this form alone.
+pub fn form_of(alloc: Global, text: &str) -> Tried<Writing>
+    ensures { IfOk result (IsAlone text.now) }
+{
+    let texts = lines_in(alloc, text)?;
+    for index in 0..texts.len() {
+        match form_at(alloc, texts[index])? {
+            Some(writing) => return Ok(writing),
+            None => {}
+        }
     }
+    Ok(Writing::Edges(Heading::ByWords, None))
 }

@@ -15,25 +15,18 @@
 //! ```
 #![tactic(auto)]
 
-mod apart;
+mod fields;
 mod forms;
 mod header;
 mod name;
-mod nodes;
 mod reading;
-mod records;
-mod refused;
 mod row;
-mod scale;
-mod words;
 
-pub use apart::form_of;
-pub use forms::{Heading, Writing};
+pub use forms::{Heading, Writing, form_of};
+pub use header::{Nodes, read_nodes};
 pub use name::{are_digits, are_labels, begins, is_name};
-pub use nodes::{Nodes, read_nodes};
 pub use reading::read_rows;
-pub use refused::{Form, LineRefused};
-pub use row::Row;
+pub use row::{Form, LineRefused, Row};
 use std::alloc::AllocError;
 
 /// What a call gives, unless memory is refused.

@@ -3,7 +3,7 @@ ghost use Rattle.std.specs.Prelude.{◌≡◌, ◌↔◌, All, IsTrue, false};
 ghost use Rattle.std.specs.Char.{is_ascii_digit};
 ghost use Rattle.std.specs.List.{list_all};
 ghost use Rattle.std.specs.Option.{option_map};
-ghost use Rattle.edge_rows.specs.Labels.{AreLabels, IsLabel, are_digits, begins, begins_comment, begins_mark, is_blank_at, is_name, separates};
+ghost use Rattle.edge_rows.specs.Labels.{AreLabels, IsLabel, are_digits, begins, begins_mark, is_blank_at, is_name, separates};
 
 // Whether a blank stands there, or nothing.
 fn is_blank_at(byte: Option<&u8>) -> bool
@@ -50,13 +50,6 @@ fn has_digits_alone(word: &str) -> bool
     word.as_bytes().iter().all(|byte| byte.is_ascii_digit())
 }
 
-/// Whether a word begins a comment.
-pub(crate) fn begins_comment(word: &str) -> bool
-    ensures { result ≡ begins_comment word.now }
-{
-    begins(b'#', word.as_bytes())
-}
-
 /// Whether a text begins with this byte.
 pub fn begins(byte: u8, text: &[u8]) -> bool
     ensures { result ≡ begins byte text.now }
@@ -85,7 +78,7 @@ fn is_plain(name: &str) -> bool
 fn is_label(name: &str) -> bool
     ensures { IsTrue result ↔ IsLabel name.now }
 {
-    is_name(name) && is_plain(name) && !begins_comment(name)
+    is_name(name) && is_plain(name) && !begins(b'#', name.as_bytes())
 }
 
 /// Whether all names may stand in lines of words.

@@ -1,17 +1,16 @@
 // Reading edges.
-ghost use Rattle.std.specs.Prelude.{◌≡◌, ◌+◌, ◌<◌, ◌^◌, ◌∷◌, ℕ, IfOk, None, length, map};
-ghost use Rattle.value_syntax.specs.Reading.{IfRead, texts_of};
-ghost use Rattle.edge_rows.specs.Reading.{IfAccepted, IfNoneRead, IfRefused};
-ghost use Rattle.edge_rows.specs.Rows.{IsEdgeRead, IsFirstRefused, IsReadAs, IsRefusedAt, IsWeight, Say, SaysEdges, row_of, scale_of};
+ghost use Rattle.std.specs.Prelude.{◌≡◌, ◌<◌, ◌≤◌, IfOk, length, map, true};
+ghost use Rattle.std.specs.Str.Parse.{digits_value};
+ghost use Rattle.value_syntax.specs.Reading.{texts_of};
+ghost use Rattle.edge_rows.specs.Labels.{are_digits};
+ghost use Rattle.edge_rows.specs.Reading.{IfAccepted, IfRefused};
+ghost use Rattle.edge_rows.specs.Rows.{IsRefusedAt, SaysEdges, alone, line_says, nearest, plain_weight, row_of, row_said, said_by, scale_of, scaled_digits, scaled_parts, scaled_weight, weight_said};
 
-use crate::forms::{Writing, fields_in, scale_of};
-use crate::header::{is_silent, lines_before};
-use crate::name::is_name;
-use crate::records::texts_in;
-use crate::refused::{Form, LineRefused};
-use crate::row::Row;
-use crate::scale::scaled_weight;
-use crate::words::first_of;
+use crate::fields::{fields_in, parts_in, texts_in};
+use crate::forms::{Writing, is_silent, scale_of};
+use crate::header::lines_before;
+use crate::name::{are_digits, is_name};
+use crate::row::{Form, LineRefused, Row};
 use crate::{Judged, Tried};
 use std::alloc::Global;
 use value_syntax::{lines_in, number};
@@ -23,23 +22,9 @@ pub fn read_rows(alloc: Global, text: &str, writing: Writing) -> Judged<Vec<Row>
 {
     let texts = lines_in(alloc, text)?;
     let before = lines_before(alloc, writing, &texts)?;
-    rows_in(alloc, writing, before, &texts[before..])
-}
-
-// The rows that these lines say, of which the first has the number behind `before`.
-fn rows_in(
-    alloc: Global,
-    writing: Writing,
-    before: usize,
-    texts: &[&str],
-) -> Judged<Vec<Row>, LineRefused>
-    requires { before + length texts.now < 2 ^ 64 }
-    ensures found { IfAccepted result (λ rows. Say writing before (texts_of texts.now) (map row_of rows.items)) }
-    ensures refused { IfRefused result (λ refused. IsFirstRefused writing before (texts_of texts.now) refused.number) }
-{
     let mut rows = Vec::new(alloc);
-    for index in 0..texts.len() {
-        let number = before + index + 1;
+    for index in before..texts.len() {
+        let number = index + 1;
         match read_one(alloc, writing, number, texts[index])? {
             Read::Nothing => {}
             Read::Row(row) => rows.push(row)?,
@@ -58,9 +43,8 @@ pub(crate) enum Read {
     Refused(Form),
 }
 
-#[tactic(auto, using(crate::proofs::RowLemmas::as_read))]
 fn read_one(alloc: Global, writing: Writing, line: usize, text: &str) -> Tried<Read>
-    ensures { IfOk result (λ read. IsReadAs writing line text.now read) }
+    ensures { IfOk result (λ read. said_by read ≡ line_says writing line text.now) }
 {
     if is_silent(alloc, writing, text)? {
         return Ok(Read::Nothing);
@@ -83,76 +67,96 @@ fn form_in(writing: Writing, fields: usize) -> Form {
 
 // What a line of these fields is, where it says something.
 fn read_fields(alloc: Global, writing: Writing, line: usize, fields: &[&str]) -> Tried<Read>
-    ensures { IfOk result (λ read. IsEdgeRead (scale_of writing) line (texts_of fields.now) read) }
+    ensures { IfOk result (λ read. said_by read ≡ alone (row_said (scale_of writing) line (texts_of fields.now))) }
 {
     let form = form_in(writing, fields.len());
-    let Some((a, behind)) = first_of(fields) else {
+    let [a, b, behind @ ..] = fields else {
         return Ok(Read::Refused(form));
     };
-    let Some((b, rest)) = first_of(behind) else {
-        return Ok(Read::Refused(form));
+    let Some(weight) = weight_in(alloc, scale_of(writing), behind)? else {
+        return Ok(Read::Refused(if behind.len() > 1 { form } else { Form::Weight }));
     };
-    let read = read_ends(alloc, writing, line, a, b, rest)?;
-    Ok(read)
-}
-
-// What a line should have been, where so many fields behind its two ends say no weight.
-fn form_of(fields: usize, form: Form) -> Form {
-    if fields > 1 { form } else { Form::Weight }
-}
-
-// What a line should have been, where one of its ends is no name.
-fn form_of_ends(a: &str, b: &str, form: Form) -> Form {
-    if a.is_empty() || b.is_empty() {
-        form
-    } else {
-        Form::Name
+    if !is_name(*a) || !is_name(*b) {
+        let empty = a.is_empty() || b.is_empty();
+        return Ok(Read::Refused(if empty { form } else { Form::Name }));
     }
-}
-
-// What a line of these ends, and these fields behind them, is.
-fn read_ends(
-    alloc: Global,
-    writing: Writing,
-    line: usize,
-    a: &str,
-    b: &str,
-    rest: &[&str],
-) -> Tried<Read>
-    ensures { IfOk result (λ read. IsEdgeRead (scale_of writing) line (a.now ∷ b.now ∷ texts_of rest.now) read) }
-{
-    let Some(weight) = weight_in(alloc, scale_of(writing), rest)? else {
-        return Ok(Read::Refused(form_of(rest.len(), form_in(writing, 2))));
-    };
-    if !is_name(a) || !is_name(b) {
-        return Ok(Read::Refused(form_of_ends(a, b, form_in(writing, 2))));
-    }
-    let a = String::from_str(alloc, a)?;
-    let b = String::from_str(alloc, b)?;
+    let a = String::from_str(alloc, *a)?;
+    let b = String::from_str(alloc, *b)?;
     Ok(Read::Row(Row { line, a, b, weight }))
 }
 
-// The weight that stands behind the ends, 1 where nothing does.
+// The weight that stands behind the ends.
 fn weight_in(alloc: Global, scale: Option<u32>, fields: &[&str]) -> Tried<Option<u32>>
-    ensures some { IfRead result (λ w. IsWeight scale w (texts_of fields.now)) }
-    ensures none { IfNoneRead result ((w : ℕ) → w < 2 ^ 32 → IsWeight scale w (texts_of fields.now) → ⊥) }
-{
-    match scale {
-        Some(scale) => scaled_weight(alloc, scale, fields),
-        None => plain_weight(alloc, fields),
-    }
-}
-
-fn plain_weight(alloc: Global, fields: &[&str]) -> Tried<Option<u32>>
-    ensures some { IfRead result (λ w. IsWeight None w (texts_of fields.now)) }
-    ensures none { IfNoneRead result ((w : ℕ) → w < 2 ^ 32 → IsWeight None w (texts_of fields.now) → ⊥) }
+    ensures { IfOk result (λ weight. weight ≡ weight_said scale (texts_of fields.now)) }
 {
     match fields {
-        [] => Ok(Some(1)),
-        [word] => match number(alloc, *word, 4_294_967_295)? {
-            Some(weight) => Ok(Some(weight as u32)),
-            None => Ok(None),
+        [] => Ok(Some(scale.unwrap_or(1))),
+        [word] => match scale {
+            Some(scale) => scaled_weight(alloc, scale, *word),
+            None => plain_weight(alloc, *word),
         },
         [_, _, ..] => Ok(None),
     }
+}
+
+#[tactic(auto, using(crate::proofs::WeightLemmas::weight_read, crate::proofs::WeightLemmas::none_read))]
+fn plain_weight(alloc: Global, word: &str) -> Tried<Option<u32>>
+    ensures { IfOk result (λ weight. weight ≡ plain_weight word.now) }
+{
+    match number(alloc, word, 4_294_967_295)? {
+        Some(weight) => Ok(Some(weight as u32)),
+        None => Ok(None),
+    }
+}
+
+// The weight that a decimal number is, multiplied and rounded.
+fn scaled_weight(alloc: Global, scale: u32, word: &str) -> Tried<Option<u32>>
+    ensures { IfOk result (λ weight. weight ≡ scaled_weight scale word.now) }
+{
+    let parts = parts_in(alloc, word, '.')?;
+    match scaled_parts(alloc, scale, &parts)? {
+        Some(weight) if weight <= 4_294_967_295 => Ok(Some(weight as u32)),
+        _ => Ok(None),
+    }
+}
+
+// A decimal number by the parts around its point, multiplied.
+fn scaled_parts(alloc: Global, scale: u32, parts: &[&str]) -> Tried<Option<u128>>
+    ensures { IfOk result (λ number. number ≡ scaled_parts scale (texts_of parts.now)) }
+{
+    match parts {
+        [whole] => scaled_digits(alloc, scale, *whole, ""),
+        [whole, part] => scaled_digits(alloc, scale, *whole, *part),
+        _ => Ok(None),
+    }
+}
+
+fn scaled_digits(alloc: Global, scale: u32, whole: &str, part: &str) -> Tried<Option<u128>>
+    ensures { IfOk result (λ number. number ≡ scaled_digits scale whole.now part.now) }
+{
+    let digits = format!(in alloc; "{whole}{part}")?;
+    if are_digits(whole) && are_digits(digits.as_str()) && digits.len() <= 18 {
+        let unit = 10u64.pow(part.len() as u32);
+        return Ok(Some(nearest(scale, value_of(digits.as_str()), unit)));
+    }
+    Ok(None)
+}
+
+// The number that digits write.
+#[tactic(auto, using(crate::proofs::WeightLemmas::value_parsed))]
+fn value_of(digits: &str) -> u64
+    requires digits { are_digits digits.now ≡ true }
+    requires few { length digits.now ≤ 18 }
+    ensures { result ≡ digits_value 10 digits.now }
+{
+    digits.parse().unwrap_or(0)
+}
+
+// The whole number next to a decimal one that is multiplied.
+fn nearest(scale: u32, units: u64, unit: u64) -> u128
+    requires { 0 < unit }
+    ensures { result ≡ nearest scale units unit }
+{
+    let (scale, units, unit) = (scale as u128, units as u128, unit as u128);
+    (2 * (scale * units) + unit) / (2 * unit)
 }

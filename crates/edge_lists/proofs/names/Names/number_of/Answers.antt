@@ -1,6 +1,6 @@
 use Rattle.std.proofs.Common.{rules, arith, ◌≡◌, ◌<◌, ◌^◌, length, true}
 use Rattle.edge_lists.specs.NameLists.{has_number}
-use Rattle.edge_lists.proofs.NameLemmas.{few_grown, number_stored, set_grown}
+use Rattle.edge_lists.proofs.NameLemmas.{few_grown, number_stored, once_by_set, set_grown}
 use Rattle.edge_lists.proofs.names.Names.number_of.Goals as goal
 
 pub overflow_cast-number : goal.overflow_cast-number
@@ -21,3 +21,6 @@ returns-clause-number c =
 
 pub returns-clause-names : goal.returns-clause-names
 returns-clause-names c = set_grown c.self.inside.set.keys c.insert_full.new.self.keys c.args.name c.args.self.now c.self.view_is c.in_ok-full.ensures.keys
+
+pub returns-clause-once : goal.returns-clause-once
+returns-clause-once c = once_by_set c.insert_full.new.self.keys c.in_ok-full.ensures.unique
