@@ -9,7 +9,7 @@ use landmarks::Landmarks;
 use std::alloc::{AllocError, Global};
 
 /// The landmark that is nearest to a node, and its colour.
-#[derive(Clone, Copy, Debug, PartialEq, Eq)]
+#[derive(Clone, Copy)]
 pub struct Mark {
     pub landmark: u16,
     /// One of twelve, counted from 1.

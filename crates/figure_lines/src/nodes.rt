@@ -16,7 +16,7 @@ use statistics::percentile;
 use std::alloc::{AllocError, Global};
 
 /// How large the table of a node is, and how long the ways of what it sends are.
-#[derive(Debug, PartialEq, Eq, Drop)]
+#[derive(Drop)]
 pub struct NodeRow {
     pub node: u16,
     pub entries: u32,

@@ -9,7 +9,7 @@ use serde::{Described, Serialize, Serializer};
 use std::alloc::{AllocError, Global};
 
 /// How long the runs of one thing took, in nanoseconds.
-#[derive(Debug, PartialEq, Eq, Drop)]
+#[derive(Drop)]
 pub struct TimeRow {
     pub what: String,
     pub runs: usize,
@@ -18,7 +18,7 @@ pub struct TimeRow {
 }
 
 /// What they ran on.
-#[derive(Debug, PartialEq, Eq, Drop)]
+#[derive(Drop)]
 pub struct Machine {
     /// How many threads it runs at a time.
     pub threads: usize,

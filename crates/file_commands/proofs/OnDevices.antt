@@ -28,7 +28,6 @@ use Rattle.device_commands.specs.Edits.{IsPastLimits}
 use Rattle.device_commands.specs.Moves.{IsMoveFault}
 use Rattle.device_commands.specs.Openings.{IsEditFault, IsReading, IsUnwrittenFault, OfContent, TellsOf}
 use Rattle.command_line.specs.declared.task.Task.{Task}
-use Rattle.command_line.specs.declared.task.Task.TheVariants.{Migrate, Copy, Serve}
 use Rattle.table_files.specs.Files.{Put}
 use Rattle.file_commands.specs.declared.devices.Access.{Access}
 use Rattle.file_commands.specs.declared.devices.Access.TheVariants.{New, ToRead}
@@ -41,8 +40,7 @@ use Rattle.file_commands.specs.Events.{Closed, Event, HasDone, IsOf, NotHad, Ope
 use Rattle.file_commands.specs.Endings.{IsAskingEnd, IsCheckDeviceFault, IsEditEnd, IsReadingEnd, IsRouteDeviceFault, IsRouteEnd, IsTransferEnd, OrOutput, access_of, device_of}
 use Rattle.file_commands.specs.Queries.{AnswersOf, AreRoutesIn, IsCheckIn, LacksNodeOf}
 use Rattle.file_commands.specs.Printed.{PrintsCheck, PrintsCopied, PrintsListing, PrintsRoutes, PrintsTicket, PrintsVerdict, ended_by, verdict_text}
-use Rattle.file_commands.specs.Runs.{EndsAfter, EndsAt, EndsOn, EndsTask, EndsTaskOn, EndsTransferAt, EndsTransferOn}
-use Rattle.file_commands.specs.Tasks.{IsOfTwo, IsService}
+use Rattle.file_commands.specs.Runs.{EndsAfter, EndsAt, EndsOn, EndsTaskOn, EndsTransferAt, EndsTransferOn}
 use Rattle.file_commands.specs.SchemeAnswers.{AreRoutesOf, checks_text, ended_after, ended_at, routes_text}
 use Rattle.file_commands.specs.Uses.{Stream, Views, device_use, known_after, known_before, stream, views}
 
@@ -278,14 +276,6 @@ ends_early model done put task path access contents old (Err e) fault here so is
   );
   untouched = λ other. refl;
 }
-
--- so ends a task on one device
-pub one_device : {D W : Type 0} (model : Ghosts D) (done : Doing D) (put : List Put → Type 0) (task : Task) (out : Stream W) (r : Result Ended Fault) → ¬ IsService task → ¬ IsOfTwo task → EndsAt (device_use model done) put task out r
-    → EndsTask (device_use model done) put task out r
-one_device model done put (Migrate device made) out r batch alone is = absurd (alone tt)
-one_device model done put (Copy device made) out r batch alone is = absurd (alone tt)
-one_device model done put (Serve device editors forwarders places live words) out r batch alone is = absurd (batch tt)
-one_device model done put _ out r batch alone is = is
 
 -- a task that is asked for ends as the one that it is
 pub on_task : {W : Type 0} (put : List Put → Type 0) (task shape : Task) (device : Views) (out : Stream W) (r : Result Ended Fault) → task ≡ shape

@@ -3,10 +3,7 @@ use Rattle.std.proofs.Common.{◌≡◌, ◌⊎◌, inl, inr, sym, subst, ⊎_el
 use Rattle.std.proofs.lemmas.Result.{IfErr-at_err}
 use Rattle.std.specs.Prelude.{IsOkAnd}
 use Rattle.disk_trait.specs.Disk.{DiskView}
-use Rattle.graph_edits.specs.Edges.{Network}
 use Rattle.schemes.specs.declared.parts.Parts.{Parts}
-use Rattle.scheme_builds.specs.Schemes.{IsSchemeOf}
-use Rattle.value_syntax.specs.Words.{AreWords, IsWithin}
 use Rattle.value_syntax.specs.declared.words.LandmarkWords.{LandmarkWords}
 use Rattle.command_output.specs.Printing.{Known}
 use Rattle.command_output.specs.declared.ended.Ended.{Ended}
@@ -15,7 +12,6 @@ use Rattle.file_commands.specs.Endings.{IsCheckDeviceFault, IsCheckEnd, IsTables
 use Rattle.file_commands.specs.Printed.{PrintsTables}
 use Rattle.file_commands.specs.Queries.{AnswersOf, IsSchemeIn}
 use Rattle.file_commands.specs.Runs.{EndsPutFound}
-use Rattle.file_commands.specs.SchemeAnswers.{IsSchemeBy}
 use Rattle.file_commands.specs.Uses.{Stream}
 use Rattle.file_commands.proofs.Faults.{each_fault}
 use Rattle.file_commands.proofs.OnDevices.{asking_end}
@@ -23,11 +19,6 @@ use Rattle.table_files.specs.Files.{Put}
 use Rattle.table_files.specs.Tables.{AnswersTables, EndsPutAsked, EndsPutting}
 
 -- ---- a scheme by the words that were asked for
-
-pub scheme_by : (graph : Network) (generation : ℕ) (asked : LandmarkWords) (words : List ℕ) (answer : Result Parts Fault) → IsWithin asked graph.nodes → AreWords asked graph.nodes words
-    → IfOk answer (λ p. IsSchemeOf graph words generation p) → IfOk answer (λ p. IsSchemeBy graph generation asked p)
-scheme_by graph generation asked words (Ok p) within are is = record { within = within; words = words; are = are; scheme = is }
-scheme_by graph generation asked words (Err e) within are is = tt
 
 -- tables of a scheme that was found are put so
 pub found_put : {W : Type 0} (answer : Result (ℕ × Parts) Fault) (found : ℕ × Parts) (folder named : List ℕ) (put : List Put → Type 0) (out : Stream W) (r : Result Ended Fault) → answer ≡ Ok found

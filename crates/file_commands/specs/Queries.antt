@@ -9,7 +9,6 @@ use Rattle.layout_2.specs.State.{State}
 use Rattle.schemes.specs.declared.parts.Parts.{Parts}
 use Rattle.scheme_builds.specs.declared.queries.Checked.{Checked}
 use Rattle.scheme_builds.specs.declared.queries.Route.{Route}
-use Rattle.scheme_builds.specs.Queries.{IsCheckAnswer}
 use Rattle.value_syntax.specs.Words.{IsWithin}
 use Rattle.value_syntax.specs.declared.words.LandmarkWords.{LandmarkWords}
 use Rattle.command_output.specs.declared.fault.Fault.{Fault}
@@ -32,10 +31,6 @@ pub record AnswersIn {T : Type 0} (graph : Network) (asked : LandmarkWords)
 -- the words name nodes of a graph alone, and a pair names a node that it hasn't
 abbrev pub LacksNode : LandmarkWords → List (ℕ × ℕ) → ℕ → Type 0
 LacksNode asked pairs nodes = IsWithin asked nodes × ¬ AreNodes nodes pairs
-
--- what the checks say of a graph's scheme by these words, if all went well
-abbrev pub IsCheckedBy : Network → List ℕ → ℕ → Checked → Type 0
-IsCheckedBy graph words generation checked = IsCheckAnswer graph words generation (Ok checked)
 
 -- the routes between these pairs under landmarks that the words choose
 abbrev pub AreRoutesBy : Network → List ℕ → List (ℕ × ℕ) → Vec Route → Type 0

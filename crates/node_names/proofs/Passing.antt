@@ -1,39 +1,19 @@
--- Refusals that are passed up, and kinds.
-use Rattle.std.proofs.Common.{arith, ◌≡◌, ◌<◌, ◌∙◌, refl, ℕ, zero, suc, List, length, get_or}
+-- Refusals that are passed up, and the fields of ops.
+use Rattle.std.proofs.Common.{◌≡◌, ◌∙◌, refl, ℕ, List}
 use Rattle.std.specs.Prelude.{Result, Ok, Err, IsErrAnd}
 use Rattle.node_names.specs.declared.refused.OpRefused.{OpRefused}
 use Rattle.node_names.specs.declared.refused.OpRefused.TheVariants.{Memory}
-use Rattle.node_names.specs.declared.ops.Kind.{Kind}
 use Rattle.node_names.specs.declared.ops.Kind.TheVariants as kinds
 use Rattle.edge_lists.specs.declared.called.Called.{Called}
 use Rattle.graph_edits.specs.declared.edits.Op.{Op}
 use Rattle.graph_edits.specs.declared.edits.Op.TheVariants.{Add, Set, Cut}
-use Rattle.node_names.specs.NamedOps.{AreEnds, AreFields, IsEdge, kind_of, kind_text}
+use Rattle.node_names.specs.NamedOps.{AreEnds, AreFields, IsEdge, kind_of}
 use Rattle.node_names.specs.Readings.{Answers}
-use Rattle.node_names.specs.Words.{Lacks}
 
 -- memory ran out where it did below
 pub passed : {B : Type 0} (out : Result B OpRefused) (refused : OpRefused) (Q : B → Type 0) → IsErrAnd out (λ e. e ≡ refused) → refused ≡ Memory → Answers out Q
 passed (Ok x) refused Q is memory = absurd is
 passed (Err e) refused Q is memory = is ∙ memory
-
--- no kind has a colon
-no_colon_at : (b : ℕ) → b ≡ 58 → 58 < b → ⊥
-no_colon_at b is more = absurd (omega (arith, is, more))
-
-pub kind_lacks : (kind : Kind) → Lacks 58 (kind_text kind)
-kind_lacks kinds.Add zero lt is = no_colon_at 97 is (omega arith)
-kind_lacks kinds.Add (suc zero) lt is = no_colon_at 100 is (omega arith)
-kind_lacks kinds.Add (suc (suc zero)) lt is = no_colon_at 100 is (omega arith)
-kind_lacks kinds.Add (suc (suc (suc i))) lt is = absurd (omega (arith, lt))
-kind_lacks kinds.Set zero lt is = no_colon_at 115 is (omega arith)
-kind_lacks kinds.Set (suc zero) lt is = no_colon_at 101 is (omega arith)
-kind_lacks kinds.Set (suc (suc zero)) lt is = no_colon_at 116 is (omega arith)
-kind_lacks kinds.Set (suc (suc (suc i))) lt is = absurd (omega (arith, lt))
-kind_lacks kinds.Cut zero lt is = no_colon_at 99 is (omega arith)
-kind_lacks kinds.Cut (suc zero) lt is = no_colon_at 117 is (omega arith)
-kind_lacks kinds.Cut (suc (suc zero)) lt is = no_colon_at 116 is (omega arith)
-kind_lacks kinds.Cut (suc (suc (suc i))) lt is = absurd (omega (arith, lt))
 
 -- ---- the fields of an op of each kind
 
