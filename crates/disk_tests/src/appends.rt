@@ -1,15 +1,13 @@
 // Journals on disks in memory, with the conditions of their calls tested first.
-use crate::helpers::{blank, bytes, got, same};
+use crate::helpers::*;
 use disk_trait::{Disk, MemDisk};
 use graph_edits::{Change, Op};
 use journal::{AppendRefused, Area, Entry, Journal, MOST_ENTRIES, ScanRefused};
-use std::alloc::Global;
 use std::process::Abort;
 
 /// Appends to a journal whose area lies on the disk.
 pub(crate) fn append_to<E: Entry>(
-    rt: &impl Abort,
-    alloc: Global,
+    rt: &impl Host,
     journal: &mut Journal<E>,
     disk: &mut MemDisk,
     group: &[E],
@@ -18,19 +16,18 @@ pub(crate) fn append_to<E: Entry>(
     let len = disk.len();
     assert!(rt; area.start <= len && area.room <= len - area.start);
     assert!(rt; 1 <= group.len() && group.len() <= MOST_ENTRIES);
-    journal.append(alloc, disk, group)
+    journal.append(rt.alloc(), disk, group)
 }
 
 /// Scans an area of the disk.
 pub(crate) fn scan_of<E: Entry>(
-    rt: &impl Abort,
-    alloc: Global,
+    rt: &impl Host,
     disk: &mut MemDisk,
     area: Area,
 ) -> Result<(Journal<E>, Vec<E>), ScanRefused> {
     let len = disk.len();
     assert!(rt; area.room >= 1 && area.start <= len && area.room <= len - area.start);
-    Journal::scan(alloc, disk, area)
+    Journal::scan(rt.alloc(), disk, area)
 }
 
 #[test]
@@ -50,9 +47,9 @@ fn refusals_have_their_numbers(rt: HostRuntime) {
 }
 
 /// A group of so many changes of so many ops each.
-fn group_of(rt: &impl Abort, alloc: Global, parts: &[(usize, usize)]) -> Vec<Change> {
+fn group_of(rt: &impl Host, parts: &[(usize, usize)]) -> Vec<Change> {
     let ops = [Op::Set(0, 1, 1); 16];
-    let mut group = Vec::new(alloc);
+    let mut group = Vec::new(rt.alloc());
     for (changes, len) in parts {
         let ops = got(rt, ops.get(..*len).ok_or("at most 16 ops"));
         for _ in 0..*changes {
@@ -86,25 +83,28 @@ const LAST: [([(usize, usize); 3], Result<(), AppendRefused>, usize); 2] = [
     ),
 ];
 
+/// A journal with 112 records of 9,287 bytes and a gate, and its disk.
+fn filled(rt: &impl Host) -> (Journal<Change>, MemDisk) {
+    let full = group_of(rt, &[(64, 16)]);
+    let mut disk = blank(rt, 1_048_576);
+    let mut journal = Journal::fresh(WHOLE);
+    for _ in 0..112 {
+        got(rt, append_to(rt, &mut journal, &mut disk, &full));
+    }
+    same(rt, journal.room_left(), 8_431, "the room left");
+    (journal, disk)
+}
+
 #[test]
 fn room_on_both_sides_of_the_last_byte(rt: HostRuntime) {
-    let alloc = rt.alloc();
     let rt = &rt;
-    let full = group_of(rt, alloc, &[(64, 16)]);
     for (last, want, entries) in &LAST {
-        let mut disk = blank(rt, alloc, 1_048_576);
-        let mut journal = Journal::fresh(WHOLE);
-        for _ in 0..112 {
-            let answer = append_to(rt, alloc, &mut journal, &mut disk, &full);
-            got(rt, answer);
-        }
-        let group = group_of(rt, alloc, last);
-        // 112 records of 9,287 bytes stand there, and a gate.
-        same(rt, journal.room_left(), 8_431, "the room left");
+        let (mut journal, mut disk) = filled(rt);
+        let group = group_of(rt, last);
         same(rt, has_room(rt, &journal, &group), want.is_ok(), "room");
-        let answer = append_to(rt, alloc, &mut journal, &mut disk, &group);
+        let answer = append_to(rt, &mut journal, &mut disk, &group);
         same(rt, answer, *want, "the last group");
-        let (_, found) = got(rt, scan_of::<Change>(rt, alloc, &mut disk, WHOLE));
+        let (_, found) = got(rt, scan_of::<Change>(rt, &mut disk, WHOLE));
         same(rt, found.len(), *entries, "the changes");
     }
 }
@@ -113,34 +113,28 @@ fn room_on_both_sides_of_the_last_byte(rt: HostRuntime) {
 // nothing, and made again it gives the answer.
 #[test]
 fn a_refused_allocation_changes_nothing(rt: HostRuntime) {
-    let alloc = rt.alloc();
     let rt = &rt;
     let area = Area { start: 2, room: 60 };
-    let mut disk = blank(rt, alloc, 64);
+    let mut disk = blank(rt, 64);
     let mut journal = Journal::fresh(area);
     let group = [
         got(rt, Change::new(&[Op::Set(0, 1, 2)])),
         got(rt, Change::new(&[Op::Cut(0, 1), Op::Add(2, 3, 4)])),
     ];
-    let answer = append_to(rt, alloc, &mut journal, &mut disk, &group);
+    let answer = append_to(rt, &mut journal, &mut disk, &group);
     if answer.is_err() {
         same(rt, answer, Err(AppendRefused::Memory), "without memory");
-        same(
-            rt,
-            bytes::<MemDisk, 64>(rt, &mut disk, 0),
-            [0; 64],
-            "as before",
-        );
-        got(rt, append_to(rt, alloc, &mut journal, &mut disk, &group));
+        shows(rt, &mut disk, 0, [0; 64], "as before");
+        got(rt, append_to(rt, &mut journal, &mut disk, &group));
     }
-    let entries = scanned_again(rt, alloc, &mut disk, area);
+    let entries = scanned_again(rt, &mut disk, area);
     same(rt, entries.as_slice(), group.as_slice(), "the changes");
 }
 
 /// The changes of an area, scanned again where memory was short.
-fn scanned_again(rt: &impl Abort, alloc: Global, disk: &mut MemDisk, area: Area) -> Vec<Change> {
-    let answer = match scan_of::<Change>(rt, alloc, disk, area) {
-        Err(ScanRefused::Memory) => scan_of::<Change>(rt, alloc, disk, area),
+fn scanned_again(rt: &impl Host, disk: &mut MemDisk, area: Area) -> Vec<Change> {
+    let answer = match scan_of::<Change>(rt, disk, area) {
+        Err(ScanRefused::Memory) => scan_of::<Change>(rt, disk, area),
         answer => answer,
     };
     let (_, entries) = got(rt, answer);
@@ -149,18 +143,13 @@ fn scanned_again(rt: &impl Abort, alloc: Global, disk: &mut MemDisk, area: Area)
 
 #[test]
 fn a_scan_whose_read_fails(rt: HostRuntime) {
-    let alloc = rt.alloc();
     let rt = &rt;
     let area = Area { start: 2, room: 60 };
-    let mut disk = blank(rt, alloc, 64);
+    let mut disk = blank(rt, 64);
     disk.fail_at(1);
-    let refused = scan_of::<Change>(rt, alloc, &mut disk, area).err();
+    let refused = scan_of::<Change>(rt, &mut disk, area).err();
     same(rt, refused, Some(ScanRefused::Device), "a failed read");
-    let (journal, entries) = got(rt, scan_of::<Change>(rt, alloc, &mut disk, area));
-    same(
-        rt,
-        (entries.len(), journal.area()),
-        (0, area),
-        "scanned again",
-    );
+    let (journal, entries) = got(rt, scan_of::<Change>(rt, &mut disk, area));
+    let found = (entries.len(), journal.area());
+    same(rt, found, (0, area), "scanned again");
 }

@@ -1,11 +1,10 @@
 // The bytes of two records, and each of them changed to each other, against a plain second reader.
 use crate::appends::{append_to, scan_of};
-use crate::helpers::{blank, bytes, got, put, same};
+use crate::helpers::*;
 use disk_trait::MemDisk;
 use graph_edits::{Change, Op};
 use journal::{Area, Journal, ScanRefused, record_law, spelling_laws};
 use requests::Request;
-use std::alloc::Global;
 use std::process::Abort;
 
 /// A second reader, which goes through an area byte by byte.
@@ -70,10 +69,10 @@ impl Reader<'_> {
 }
 
 /// The ops of an area, each with the number of its change; none where the area is damaged.
-fn read_plainly(rt: &impl Abort, alloc: Global, area: &[u8]) -> Option<Vec<(usize, Op)>> {
+fn read_plainly(rt: &impl Host, area: &[u8]) -> Option<Vec<(usize, Op)>> {
     let mut reader = Reader {
         bytes: area,
-        ops: Vec::new(alloc),
+        ops: Vec::new(rt.alloc()),
         changes: 0,
     };
     for _ in 0..area.len() {
@@ -105,10 +104,10 @@ fn have_ops(entries: &[Change], list: &[(usize, Op)]) -> bool {
 const AREA: Area = Area { start: 3, room: 66 };
 
 /// Whether an area with these bytes is read. The journal and the second reader must find the same, or that it is damaged.
-fn is_read(rt: &impl Abort, alloc: Global, disk: &mut MemDisk, spoilt: &[u8]) -> bool {
+fn is_read(rt: &impl Host, disk: &mut MemDisk, spoilt: &[u8]) -> bool {
     put(rt, disk, 3, spoilt);
-    let plain = read_plainly(rt, alloc, spoilt);
-    match scan_of::<Change>(rt, alloc, disk, AREA) {
+    let plain = read_plainly(rt, spoilt);
+    match scan_of::<Change>(rt, disk, AREA) {
         Ok((_, entries)) => {
             let ops = got(rt, plain.ok_or("damaged"));
             same(rt, have_ops(&entries, &ops), true, "the ops");
@@ -129,17 +128,9 @@ const RECORDS: [u8; 63] = [
     1, 0, 0, 0, 0, 1, 0, 3, 0, 2, 0, 0, 0, 5, 0,
 ];
 
-/// Sees that these records stand on a disk.
-fn shows_records(rt: &impl Abort, disk: &mut MemDisk) {
-    let found = bytes::<MemDisk, 63>(rt, disk, 3);
-    same(rt, found, RECORDS, "the bytes");
-}
-
-#[test]
-fn each_byte_of_two_records_changed_to_each_other(rt: HostRuntime) {
-    let alloc = rt.alloc();
-    let rt = &rt;
-    let mut disk = blank(rt, alloc, 70);
+/// A disk with these records.
+fn written(rt: &impl Host) -> MemDisk {
+    let mut disk = blank(rt, 70);
     let mut journal = Journal::fresh(AREA);
     let three = [Op::Set(1, 0, 9), Op::Cut(0, 1), Op::Add(3, 2, 5)];
     let all = [
@@ -147,26 +138,31 @@ fn each_byte_of_two_records_changed_to_each_other(rt: HostRuntime) {
         got(rt, Change::new(&[Op::Add(0, 1, 7)])),
         got(rt, Change::new(&three)),
     ];
-    let changes = all.as_slice();
-    let first = append_to(rt, alloc, &mut journal, &mut disk, &changes[..1]);
-    let second = append_to(rt, alloc, &mut journal, &mut disk, &changes[1..]);
-    same(rt, (first, second), (Ok(()), Ok(())), "two records");
-    shows_records(rt, &mut disk);
+    let (first, second) = all.as_slice().split_at(1);
+    for group in [first, second] {
+        let answer = append_to(rt, &mut journal, &mut disk, group);
+        same(rt, answer, Ok(()), "a record");
+    }
+    disk
+}
+
+#[test]
+fn each_byte_of_two_records_changed_to_each_other(rt: HostRuntime) {
+    let rt = &rt;
+    let mut disk = written(rt);
+    shows(rt, &mut disk, 3, RECORDS, "the bytes");
     let whole = bytes::<MemDisk, 66>(rt, &mut disk, 3);
-    let (mut damaged, mut read) = (0u32, 0u32);
+    let mut read = 0u32;
     for place in 0..66usize {
         for byte in 0..=255u8 {
             let mut spoilt = whole;
             spoilt[place] = byte;
-            if is_read(rt, alloc, &mut disk, &spoilt) {
-                read = read.wrapping_add(1);
-            } else {
-                damaged = damaged.wrapping_add(1);
-            }
+            read = read.wrapping_add(is_read(rt, &mut disk, &spoilt) as u32);
         }
     }
-    let many = damaged > 1_000 && read > 1_000;
-    same(rt, (damaged, read, many), (damaged, read, true), "both");
+    // of 66 times 256
+    let both = 1_000 < read && read < 15_896;
+    same(rt, (read, both), (read, true), "both");
     // A payload spells one group, and a group has one payload.
     spelling_laws::<Change>();
     spelling_laws::<Request>();

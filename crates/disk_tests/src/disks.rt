@@ -3,9 +3,8 @@ ghost use Rattle.std.specs.Prelude.{◌≤◌, ℕ, List, OnOk, IsTrue, length};
 ghost use Rattle.std.specs.Int.{w64, to_be_bytes};
 ghost use Rattle.disk_trait.specs.Disk.{MayLeave, IsPublished};
 
-use crate::helpers::{blank, bytes, got, put, same};
+use crate::helpers::*;
 use disk_trait::{CrashDisk, DeviceFault, Disk, FileDisk, MemDisk, Plan, close, publish};
-use std::alloc::Global;
 use std::fs;
 use std::fs::{File, OpenOptions};
 use std::process::Abort;
@@ -22,98 +21,67 @@ fn five_calls(rt: &impl Abort, disk: &mut MemDisk) -> [bool; 5] {
     [write, sync, overlapping, again, read]
 }
 
-const NO: bool = false;
-
-const YES: bool = true;
+/// Sees that of five calls those fail from one to another, which is none where the first stands behind the last.
+fn fail(rt: &impl Abort, disk: &mut MemDisk, calls: (u8, u8), name: &str) {
+    let want = [1, 2, 3, 4, 5].map(|call: u8| calls.0 <= call && call <= calls.1);
+    same(rt, five_calls(rt, disk), want, name);
+}
 
 /// What is there where all of the five calls were made.
-const WHOLE: [u8; 8] = [0, 0, 1, 2, 4, 5, 6, 0];
+const WHOLE: u64 = 0x0000_0102_0405_0600;
 
-/// A plan, which of the five calls fail, and what is there then.
-const PLANS: [(Plan, [bool; 5], [u8; 8]); 17] = [
-    (Plan::None, [NO, NO, NO, NO, NO], WHOLE),
-    (Plan::Fail(0), [NO, NO, NO, NO, NO], WHOLE),
-    (
-        Plan::Fail(1),
-        [YES, NO, NO, NO, NO],
-        [0, 0, 0, 0, 4, 5, 6, 0],
-    ),
-    (Plan::Fail(2), [NO, YES, NO, NO, NO], WHOLE),
-    (
-        Plan::Fail(3),
-        [NO, NO, YES, NO, NO],
-        [0, 0, 1, 2, 3, 0, 0, 0],
-    ),
-    (Plan::Fail(4), [NO, NO, NO, YES, NO], WHOLE),
-    (Plan::Fail(5), [NO, NO, NO, NO, YES], WHOLE),
-    (Plan::Fail(6), [NO, NO, NO, NO, NO], WHOLE),
-    (Plan::Stop(0, 9), [NO, NO, NO, NO, NO], WHOLE),
-    (
-        Plan::Stop(1, 2),
-        [YES, YES, YES, YES, YES],
-        [0, 0, 1, 2, 0, 0, 0, 0],
-    ),
-    (
-        Plan::Stop(2, 2),
-        [NO, YES, YES, YES, YES],
-        [0, 0, 1, 2, 3, 0, 0, 0],
-    ),
-    (
-        Plan::Stop(3, 0),
-        [NO, NO, YES, YES, YES],
-        [0, 0, 1, 2, 3, 0, 0, 0],
-    ),
-    (
-        Plan::Stop(3, 1),
-        [NO, NO, YES, YES, YES],
-        [0, 0, 1, 2, 4, 0, 0, 0],
-    ),
-    (Plan::Stop(3, 9), [NO, NO, YES, YES, YES], WHOLE),
-    (Plan::Stop(4, 9), [NO, NO, NO, YES, YES], WHOLE),
-    (Plan::Stop(5, 9), [NO, NO, NO, NO, YES], WHOLE),
-    (Plan::Stop(6, 9), [NO, NO, NO, NO, NO], WHOLE),
+/// None of the five calls.
+const NONE: (u8, u8) = (6, 5);
+
+/// A plan, from which to which of the five calls fail, and the eight bytes that are there then.
+const PLANS: [(Plan, (u8, u8), u64); 17] = [
+    (Plan::None, NONE, WHOLE),
+    (Plan::Fail(0), NONE, WHOLE),
+    (Plan::Fail(1), (1, 1), 0x0000_0000_0405_0600),
+    (Plan::Fail(2), (2, 2), WHOLE),
+    (Plan::Fail(3), (3, 3), 0x0000_0102_0300_0000),
+    (Plan::Fail(4), (4, 4), WHOLE),
+    (Plan::Fail(5), (5, 5), WHOLE),
+    (Plan::Fail(6), NONE, WHOLE),
+    (Plan::Stop(0, 9), NONE, WHOLE),
+    (Plan::Stop(1, 2), (1, 5), 0x0000_0102_0000_0000),
+    (Plan::Stop(2, 2), (2, 5), 0x0000_0102_0300_0000),
+    (Plan::Stop(3, 0), (3, 5), 0x0000_0102_0300_0000),
+    (Plan::Stop(3, 1), (3, 5), 0x0000_0102_0400_0000),
+    (Plan::Stop(3, 9), (3, 5), WHOLE),
+    (Plan::Stop(4, 9), (4, 5), WHOLE),
+    (Plan::Stop(5, 9), (5, 5), WHOLE),
+    (Plan::Stop(6, 9), NONE, WHOLE),
 ];
 
 #[test]
 fn fails_where_its_plan_says(rt: HostRuntime) {
-    let alloc = rt.alloc();
     let rt = &rt;
-    for (plan, fails, want) in &PLANS {
-        let mut disk = blank(rt, alloc, 8);
+    for (plan, calls, want) in &PLANS {
+        let mut disk = blank(rt, 8);
         disk.arm(*plan);
-        let found = five_calls(rt, &mut disk);
+        fail(rt, &mut disk, *calls, "the calls");
         disk.arm(Plan::None);
-        let there = bytes::<MemDisk, 8>(rt, &mut disk, 0);
-        same(rt, (*plan, found, there), (*plan, *fails, *want), "a plan");
+        let there = u64::from_be_bytes(bytes(rt, &mut disk, 0));
+        same(rt, (*plan, there), (*plan, *want), "a plan");
     }
 }
 
 #[test]
 fn counts_calls_from_the_plan_on(rt: HostRuntime) {
-    let alloc = rt.alloc();
     let rt = &rt;
-    let mut disk = blank(rt, alloc, 8);
-    same(rt, five_calls(rt, &mut disk), [NO; 5], "no plan");
+    let mut disk = blank(rt, 8);
+    fail(rt, &mut disk, NONE, "no plan");
     disk.fail_at(2);
-    same(
-        rt,
-        five_calls(rt, &mut disk),
-        [NO, YES, NO, NO, NO],
-        "the second",
-    );
+    fail(rt, &mut disk, (2, 2), "the second");
     disk.stop_at(5, 0);
-    same(
-        rt,
-        five_calls(rt, &mut disk),
-        [NO, NO, NO, NO, YES],
-        "the last",
-    );
-    same(rt, five_calls(rt, &mut disk), [YES; 5], "stopped");
+    fail(rt, &mut disk, (5, 5), "the last");
+    fail(rt, &mut disk, (1, 5), "stopped");
 }
 
 /// Bytes 2 to 7 and 10 to 14 are unsettled, after others were synced at 1 to 5.
-fn torn_disk(rt: &impl Abort, alloc: Global) -> MemDisk {
-    let mut disk = blank(rt, alloc, 16);
+fn torn_disk(rt: &impl Host) -> MemDisk {
+    let mut disk = blank(rt, 16);
     put(rt, &mut disk, 1, &[0x11, 0x12, 0x13, 0x14, 0x15]);
     got(rt, disk.sync());
     put(rt, &mut disk, 2, &[0x21, 0x22, 0x23, 0x24, 0x25, 0x26]);
@@ -121,70 +89,33 @@ fn torn_disk(rt: &impl Abort, alloc: Global) -> MemDisk {
     disk
 }
 
-/// A word, and what a crash by it leaves. The bytes dealt are those of the words of SplitMix64 from the seed, by another program.
-const IMAGES: [(u64, [u8; 16]); 10] = [
-    (
-        0,
-        [
-            0, 0x11, 0x12, 0x13, 0x14, 0x15, 0, 0, 0, 0, 0, 0, 0, 0, 0, 0,
-        ],
-    ),
-    (
-        1,
-        [
-            0, 0x11, 0x21, 0x22, 0x23, 0x24, 0x25, 0x26, 0, 0, 0x31, 0x32, 0x33, 0x34, 0x35, 0,
-        ],
-    ),
-    (
-        2,
-        [
-            0, 0x11, 0x97, 0x58, 0x35, 0xde, 0x1c, 0x97, 0, 0, 0x56, 0xce, 0xbf, 0xc8, 0x46, 0,
-        ],
-    ),
-    (
-        7,
-        [
-            0, 0x11, 0x63, 0xcb, 0xe1, 0xe4, 0x59, 0x32, 0, 0, 0x0d, 0xd7, 0x04, 0x4c, 0x3c, 0,
-        ],
-    ),
-    (
-        255,
-        [
-            0, 0x11, 0x33, 0x8c, 0x50, 0x71, 0x46, 0x28, 0, 0, 0x3f, 0xb4, 0xef, 0x84, 0xb9, 0,
-        ],
-    ),
-    (256, [0, 0x11, 0, 0, 0, 0, 0, 0, 0, 0, 0, 0, 0, 0, 0, 0]),
-    (257, [0, 0x11, 1, 1, 1, 1, 1, 1, 0, 0, 1, 1, 1, 1, 1, 0]),
-    (
-        511,
-        [
-            0, 0x11, 255, 255, 255, 255, 255, 255, 0, 0, 255, 255, 255, 255, 255, 0,
-        ],
-    ),
-    (
-        512,
-        [
-            0, 0x11, 0xfa, 0x9d, 0x65, 0xe7, 0x6f, 0x02, 0, 0, 0x44, 0x66, 0x95, 0x33, 0xb2, 0,
-        ],
-    ),
+/// A word, and the 16 bytes that a crash by it leaves. The bytes dealt are those of the words of SplitMix64 from the seed, by another
+/// program.
+const IMAGES: [(u64, u128); 10] = [
+    (0, 0x0011_1213_1415_0000_0000_0000_0000_0000),
+    (1, 0x0011_2122_2324_2526_0000_3132_3334_3500),
+    (2, 0x0011_9758_35de_1c97_0000_56ce_bfc8_4600),
+    (7, 0x0011_63cb_e1e4_5932_0000_0dd7_044c_3c00),
+    (255, 0x0011_338c_5071_4628_0000_3fb4_ef84_b900),
+    (256, 0x0011_0000_0000_0000_0000_0000_0000_0000),
+    (257, 0x0011_0101_0101_0101_0000_0101_0101_0100),
+    (511, 0x0011_ffff_ffff_ffff_0000_ffff_ffff_ff00),
+    (512, 0x0011_fa9d_65e7_6f02_0000_4466_9533_b200),
     (
         0x0123_4567_89ab_cdef,
-        [
-            0, 0x11, 0x15, 0x7a, 0x38, 0x07, 0xa4, 0x8f, 0, 0, 0xaa, 0x9d, 0xd5, 0x73, 0x52, 0,
-        ],
+        0x0011_157a_3807_a48f_0000_aa9d_d573_5200,
     ),
 ];
 
 #[test]
 fn leaves_the_image_of_the_word(rt: HostRuntime) {
-    let alloc = rt.alloc();
     let rt = &rt;
     for (word, want) in &IMAGES {
-        let mut disk = torn_disk(rt, alloc).crash(*word);
-        let found = bytes::<MemDisk, 16>(rt, &mut disk, 0);
+        let mut disk = torn_disk(rt).crash(*word);
+        let found = u128::from_be_bytes(bytes(rt, &mut disk, 0));
         // Nothing is unsettled after a crash.
         let mut again = disk.crash(511);
-        let twice = bytes::<MemDisk, 16>(rt, &mut again, 0);
+        let twice = u128::from_be_bytes(bytes(rt, &mut again, 0));
         same(rt, (*word, found, twice), (*word, *want, *want), "an image");
     }
 }
@@ -223,21 +154,16 @@ const WORDS: [u64; 4] = [0, 1, 256, 257];
 
 #[test]
 fn opens_a_gate_only_before_whole_text(rt: HostRuntime) {
-    let alloc = rt.alloc();
     let rt = &rt;
     for (plan, gates) in &GATES {
         for (word, want) in WORDS.iter().zip(gates.iter()) {
-            let mut disk = blank(rt, alloc, 8);
+            let mut disk = blank(rt, 8);
             disk.arm(*plan);
             let answer = published(rt, &mut disk, 4, &[7, 8, 9]).is_ok();
-            same(
-                rt,
-                (*plan, answer),
-                (*plan, *plan == Plan::None),
-                "published",
-            );
             let [gate, first, second, third] = gate_after(rt, disk, *word);
-            same(rt, (*plan, *word, gate), (*plan, *word, *want), "the gate");
+            let found = (*plan, *word, answer, gate);
+            let may = *plan == Plan::None;
+            same(rt, found, (*plan, *word, may, *want), "the gate");
             let whole = gate == 0 || [first, second, third] == [7, 8, 9];
             same(rt, (*plan, *word, whole), (*plan, *word, true), "the text");
         }
@@ -256,14 +182,12 @@ fn keep<D: Disk>(disk: &mut D, number: u64) -> Result<(), DeviceFault>
 
 #[test]
 fn keeps_a_number(rt: HostRuntime) {
-    let alloc = rt.alloc();
     let rt = &rt;
-    let mut disk = blank(rt, alloc, 9);
+    let mut disk = blank(rt, 9);
     let len = disk.len();
     assert!(rt; len == 9);
     got(rt, keep(&mut disk, 0x0102_0304_0506_0708));
-    let found = bytes::<MemDisk, 9>(rt, &mut disk, 0);
-    same(rt, found, [1, 1, 2, 3, 4, 5, 6, 7, 8], "the number");
+    shows(rt, &mut disk, 0, [1, 1, 2, 3, 4, 5, 6, 7, 8], "the number");
 }
 
 /// Publishes two bytes behind a gate.
@@ -271,30 +195,19 @@ fn publish_two(rt: &impl Abort, disk: &mut MemDisk, gate: usize) {
     let len = disk.len();
     assert!(rt; 3 <= len && gate <= len - 3);
     got(rt, publish(disk, gate, &[7, 8]));
-    same(
-        rt,
-        bytes::<MemDisk, 3>(rt, disk, gate),
-        [1, 7, 8],
-        "published",
-    );
+    shows(rt, disk, gate, [1, 7, 8], "published");
 }
 
 #[test]
 fn publishes_and_closes_on_a_large_disk(rt: HostRuntime) {
-    let alloc = rt.alloc();
     let rt = &rt;
-    let mut disk = blank(rt, alloc, 64);
+    let mut disk = blank(rt, 64);
     publish_two(rt, &mut disk, 20);
     let len = disk.len();
     assert!(rt; len == 64);
     got(rt, close(&mut disk, 20));
-    same(
-        rt,
-        bytes::<MemDisk, 3>(rt, &mut disk, 20),
-        [0, 7, 8],
-        "closed",
-    );
-    let mut large = blank(rt, alloc, 2_371_584);
+    shows(rt, &mut disk, 20, [0, 7, 8], "closed");
+    let mut large = blank(rt, 2_371_584);
     publish_two(rt, &mut large, 2_000_000);
 }
 
@@ -309,37 +222,23 @@ fn keeps_a_file_over_a_reopening(rt: HostRuntime) {
     got(rt, disk.sync());
     drop(disk);
     let mut again = got(rt, FileDisk::open(rt, path));
-    same(
-        rt,
-        again.len(),
-        8,
-        "the length of a disk that is opened again",
-    );
-    let found = bytes::<FileDisk, 6>(rt, &mut again, 1);
-    same(rt, found, [1, 92, 93, 94, 5, 6], "the bytes");
+    same(rt, again.len(), 8, "the length of a disk opened again");
+    shows(rt, &mut again, 1, [1, 92, 93, 94, 5, 6], "the bytes");
     let whole = got(rt, fs::read(rt, path));
     let want = [0, 1, 92, 93, 94, 5, 6, 7];
     same(rt, whole.as_slice(), want.as_slice(), "the file");
     got(rt, fs::remove_file(rt, path));
-    same(
-        rt,
-        FileDisk::open(rt, path).is_err(),
-        true,
-        "it makes no file",
-    );
+    let none = FileDisk::open(rt, path).is_err();
+    same(rt, none, true, "it makes no file");
 }
 
-/// What a read of up to eight bytes answers.
-fn read_of(
-    rt: &impl Abort,
-    disk: &mut FileDisk,
-    at: usize,
-    many: usize,
-) -> Result<(), DeviceFault> {
+/// Sees that a read of up to eight bytes is answered by a fault.
+fn faults(rt: &impl Abort, disk: &mut FileDisk, at: usize, many: usize, name: &str) {
     let len = disk.len();
     assert!(rt; many <= 8 && many <= len && at <= len - many);
     let mut bytes = [9; 8];
-    disk.read(at, &mut bytes[..many])
+    let answer = disk.read(at, &mut bytes[..many]);
+    same(rt, answer, Err(DeviceFault), name);
 }
 
 #[test]
@@ -353,8 +252,7 @@ fn answers_a_fault_where_a_file_is_not_writable(rt: HostRuntime) {
     let len = disk.len();
     assert!(rt; len == 8);
     same(rt, disk.write_at(0, &[9]), Err(DeviceFault), "a write");
-    let found = bytes::<FileDisk, 4>(rt, &mut disk, 4);
-    same(rt, found, [4, 5, 6, 7], "the bytes");
+    shows(rt, &mut disk, 4, [4, 5, 6, 7], "the bytes");
     got(rt, fs::remove_file(rt, path));
 }
 
@@ -369,19 +267,8 @@ fn answers_a_fault_where_a_file_is_cut_short(rt: HostRuntime) {
     let file = got(rt, OpenOptions::new().write(true).open(rt, path));
     got(rt, file.set_len(6));
     same(rt, disk.len(), 8, "the length stays");
-    same(
-        rt,
-        read_of(rt, &mut disk, 4, 4),
-        Err(DeviceFault),
-        "over the end",
-    );
-    same(
-        rt,
-        read_of(rt, &mut disk, 6, 2),
-        Err(DeviceFault),
-        "past the end",
-    );
-    let found = bytes::<FileDisk, 4>(rt, &mut disk, 2);
-    same(rt, found, [2, 3, 4, 5], "the bytes");
+    faults(rt, &mut disk, 4, 4, "over the end");
+    faults(rt, &mut disk, 6, 2, "past the end");
+    shows(rt, &mut disk, 2, [2, 3, 4, 5], "the bytes");
     got(rt, fs::remove_file(rt, path));
 }

@@ -1,8 +1,13 @@
 // What the tests share: each call with its conditions tested first.
 use disk_trait::{Disk, MemDisk};
-use std::alloc::Global;
+use std::alloc::AllocGlobal;
 use std::fmt::Debug;
 use std::process::Abort;
+
+/// What a test stands on: what ends it, and memory.
+pub(crate) trait Host: Abort + AllocGlobal {}
+
+impl<R: Abort + AllocGlobal> Host for R {}
 
 /// The value of an answer that has to have one.
 pub(crate) fn got<T, E: Drop>(rt: &impl Abort, answer: Result<T, E>) -> T {
@@ -18,10 +23,10 @@ pub(crate) fn same<T: Copy + PartialEq + Debug>(rt: &impl Abort, found: T, want:
 }
 
 /// A disk of so many zeros, asked for again where memory was short.
-pub(crate) fn blank(rt: &impl Abort, alloc: Global, len: usize) -> MemDisk {
-    match MemDisk::new(alloc, len) {
+pub(crate) fn blank(rt: &impl Host, len: usize) -> MemDisk {
+    match MemDisk::new(rt.alloc(), len) {
         Ok(disk) => disk,
-        Err(_) => got(rt, MemDisk::new(alloc, len)),
+        Err(_) => got(rt, MemDisk::new(rt.alloc(), len)),
     }
 }
 
@@ -41,4 +46,15 @@ pub(crate) fn bytes<D: Disk, const N: usize>(rt: &impl Abort, disk: &mut D, at: 
     }
     got(rt, disk.read(at, &mut bytes));
     bytes
+}
+
+/// Sees that a disk has these bytes from a place on.
+pub(crate) fn shows<D: Disk, const N: usize>(
+    rt: &impl Abort,
+    disk: &mut D,
+    at: usize,
+    want: [u8; N],
+    name: &str,
+) {
+    same(rt, bytes(rt, disk, at), want, name);
 }

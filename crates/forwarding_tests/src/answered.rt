@@ -3,7 +3,7 @@ ghost use Rattle.std.specs.Prelude.{◌≡◌, ◌+◌, ◌<◌, ◌∷◌, [], 
 ghost use Rattle.generations.specs.declared.posting.Verdict.TheVariants.{Accepted};
 ghost use Rattle.forwarding_tests.specs.Answered.{IsAnswered};
 
-use crate::posted::{popped, post_now, same};
+use crate::posted::{Host, popped, post_now, same};
 use generations::{BoardWriter, Mark, Posting, Verdict, board};
 use graph_edits::{Change, Op};
 use intake::{Editor, Outcome, SubmitRefused, Taker, open_intake};
@@ -33,9 +33,8 @@ fn accepted(alloc: Global, session: u8, ticket: u64, count: u64) -> Result<Vec<M
 }
 
 // Takes a request and posts that its change is the next accepted one: its session and ticket, where there was one.
-fn answer_next<R: Wait + Abort, W: Wait + Drop>(
+fn answer_next<R: Host, W: Wait + Drop>(
     rt: &R,
-    alloc: Global,
     taker: &mut Taker,
     writer: &mut BoardWriter<W>,
     settled: u64,
@@ -51,7 +50,7 @@ fn answer_next<R: Wait + Abort, W: Wait + Drop>(
         return Ok(None);
     };
     let (session, ticket) = (request.session, request.ticket);
-    let marks = accepted(alloc, session, ticket, settled + 1)?;
+    let marks = accepted(rt.alloc(), session, ticket, settled + 1)?;
     post_now(rt, writer, Posting::Marks(marks));
     Ok(Some((session, ticket)))
 }
@@ -65,17 +64,16 @@ struct Opened<W: Wait + Drop> {
     second: Editor,
 }
 
-fn two_editors<'a, R: Wait + Abort>(
+fn two_editors<'a, R: Host>(
     rt: &'a R,
-    alloc: Global,
     starts: &[u64; SESSIONS],
 ) -> Result<Opened<&'a R>, AllocError>
     ensures answered { IfOk result (λ p. IsAnswered p.taker p.writer 0) }
     ensures first { IfOk result (λ p. p.first.known.opening ≡ p.writer.opening) }
     ensures second { IfOk result (λ p. p.second.known.opening ≡ p.writer.opening) }
 {
-    let (writer, readers) = board(alloc, rt, 2, starts, 0)?;
-    let (taker, mut editors) = open_intake(alloc, 1, readers, starts)?;
+    let (writer, readers) = board(rt.alloc(), rt, 2, starts, 0)?;
+    let (taker, mut editors) = open_intake(rt.alloc(), 1, readers, starts)?;
     let second = popped(rt, &mut editors);
     let first = popped(rt, &mut editors);
     Ok(Opened {
@@ -87,9 +85,8 @@ fn two_editors<'a, R: Wait + Abort>(
 }
 
 // Takes the next request, which has to be this session's under this ticket, and posts that its change is the next accepted one.
-fn accepts_next<R: Wait + Abort, W: Wait + Drop>(
+fn accepts_next<R: Host, W: Wait + Drop>(
     rt: &R,
-    alloc: Global,
     opened: &mut Opened<W>,
     settled: u64,
     want: (u8, u64),
@@ -101,7 +98,7 @@ fn accepts_next<R: Wait + Abort, W: Wait + Drop>(
     ensures second { opened.new.second ≡ opened.old.second }
     ensures answered { OnOk result (IsAnswered opened.new.taker opened.new.writer (settled + 1)) }
 {
-    match answer_next(rt, alloc, &mut opened.taker, &mut opened.writer, settled)? {
+    match answer_next(rt, &mut opened.taker, &mut opened.writer, settled)? {
         Some(found) => same(rt, found, want, "a request"),
         None => panic!(rt; "nothing to take"),
     }
@@ -170,37 +167,32 @@ fn both_hear<W: Wait + Drop>(rt: &impl Abort, opened: &mut Opened<W>)
 }
 
 // Both changes are taken and answered, the second once there is room for it.
-fn settles_both<R: Wait + Abort, W: Wait + Drop>(
-    rt: &R,
-    alloc: Global,
-    opened: &mut Opened<W>,
-) -> Result<(), AllocError>
+fn settles_both<R: Host, W: Wait + Drop>(rt: &R, opened: &mut Opened<W>) -> Result<(), AllocError>
     requires answered { IsAnswered opened.old.taker opened.old.writer 0 }
     requires first { opened.old.first.known.opening ≡ opened.old.writer.opening }
     requires second { opened.old.second.known.opening ≡ opened.old.writer.opening }
 {
     fills(rt, opened);
-    accepts_next(rt, alloc, opened, 0, (0, 1))?;
+    accepts_next(rt, opened, 0, (0, 1))?;
     goes_in(rt, &mut opened.second, change(rt, 1, 2), "the second");
-    accepts_next(rt, alloc, opened, 1, (1, 1))?;
+    accepts_next(rt, opened, 1, (1, 1))?;
     both_hear(rt, opened);
     Ok(())
 }
 
 // The two editors, with answers by hand.
-fn settles<R: Wait + Abort>(rt: &R, alloc: Global) -> Result<(), AllocError> {
-    let mut opened = two_editors(rt, alloc, &[0; SESSIONS])?;
-    settles_both(rt, alloc, &mut opened)
+fn settles<R: Host>(rt: &R) -> Result<(), AllocError> {
+    let mut opened = two_editors(rt, &[0; SESSIONS])?;
+    settles_both(rt, &mut opened)
 }
 
 /// Run with each allocation refused in turn too (`./refuse-memory`): what was refused is whole when it is made again.
 #[test]
 fn settles_two_editors_over_one_place(rt: HostRuntime) -> Result<(), Fail> {
-    let alloc = rt.alloc();
     let rt = &rt;
-    match settles(rt, alloc) {
+    match settles(rt) {
         Ok(()) => Ok(()),
-        Err(_) => Ok(settles(rt, alloc)?),
+        Err(_) => Ok(settles(rt)?),
     }
 }
 
@@ -234,12 +226,7 @@ fn follows(last: &mut [u64; SESSIONS], session: u8, ticket: u64) -> bool {
 }
 
 // Answers all changes of four editors: whether each session's tickets came as 1, 2, 3 and so on, and nothing was left.
-fn answers<R: Wait + Abort, W: Wait + Drop>(
-    rt: &R,
-    alloc: Global,
-    mut taker: Taker,
-    mut writer: BoardWriter<W>,
-) -> bool
+fn answers<R: Host, W: Wait + Drop>(rt: &R, mut taker: Taker, mut writer: BoardWriter<W>) -> bool
     requires { IsAnswered taker writer 0 }
 {
     let (mut last, mut settled, mut fine) = ([0u64; SESSIONS], 0u64, true);
@@ -247,7 +234,7 @@ fn answers<R: Wait + Abort, W: Wait + Drop>(
         if settled >= 4 * EACH {
             break;
         }
-        match answer_next(rt, alloc, &mut taker, &mut writer, settled) {
+        match answer_next(rt, &mut taker, &mut writer, settled) {
             Ok(Some((session, ticket))) => {
                 settled += 1;
                 fine = fine && follows(&mut last, session, ticket);
@@ -260,20 +247,16 @@ fn answers<R: Wait + Abort, W: Wait + Drop>(
 }
 
 // Four editors in threads beside the taker, over so many places.
-fn relay<R: Threads + Wait + Abort + Sync>(
-    rt: &R,
-    alloc: Global,
-    capacity: usize,
-) -> Result<bool, AllocError>
+fn relay<R: Threads + Host + Sync>(rt: &R, capacity: usize) -> Result<bool, AllocError>
     requires { 0 < capacity }
 {
-    let (writer, readers) = board(alloc, rt, 4, &[0; SESSIONS], 0)?;
-    let (taker, editors) = open_intake(alloc, capacity, readers, &[0; SESSIONS])?;
+    let (writer, readers) = board(rt.alloc(), rt, 4, &[0; SESSIONS], 0)?;
+    let (taker, editors) = open_intake(rt.alloc(), capacity, readers, &[0; SESSIONS])?;
     let (fine, each) = join(
         rt,
         move || -> bool
             requires { IsAnswered taker writer 0 }
-        { answers(rt, alloc, taker, writer) },
+        { answers(rt, taker, writer) },
         move || map_vec(rt, editors, &|editor| submits(rt, editor)),
     );
     Ok(fine && each?.iter().all(|right| *right))
@@ -281,9 +264,8 @@ fn relay<R: Threads + Wait + Abort + Sync>(
 
 #[test]
 fn four_editors_beside_one_taker(rt: HostRuntime) -> Result<(), Fail> {
-    let alloc = rt.alloc();
     let rt = &rt;
-    same(rt, relay(rt, alloc, 1)?, true, "over one place");
-    same(rt, relay(rt, alloc, 64)?, true, "over 64 places");
+    same(rt, relay(rt, 1)?, true, "over one place");
+    same(rt, relay(rt, 64)?, true, "over 64 places");
     Ok(())
 }

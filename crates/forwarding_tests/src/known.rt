@@ -4,13 +4,13 @@ ghost use Rattle.requests.specs.Tickets.{last_of};
 ghost use Rattle.forwarding_tests.specs.InARow.{IsInARow};
 ghost use Rattle.forwarding_tests.specs.Known.{IsNewEditor};
 
-use crate::posted::{popped, post_next, same};
+use crate::posted::{Host, popped, post_next, same};
 use generations::{BoardReader, BoardWriter, board};
 use intake::{Editor, Taker, open_intake};
 use packet_ways::BoardName;
 use requests::SESSIONS;
 use service_actors::{BoardForwarder, SessionEditor};
-use std::alloc::{AllocError, Global};
+use std::alloc::AllocError;
 use std::marker::Brand;
 use std::process::Abort;
 use std::sync::Wait;
@@ -25,14 +25,14 @@ struct Beginning<W: Wait + Drop> {
     reader: BoardReader,
 }
 
-fn begun<'a, R: Wait + Abort>(rt: &'a R, alloc: Global) -> Result<Beginning<&'a R>, AllocError>
+fn begun<'a, R: Host>(rt: &'a R) -> Result<Beginning<&'a R>, AllocError>
     ensures row { IfOk result (λ b. IsInARow b.writer 0) }
     ensures editor { IfOk result (λ b. IsNewEditor b.writer.opening b.taker.queue b.editor) }
     ensures reader { IfOk result (λ b. b.reader.all.opening ≡ b.writer.opening) }
 {
-    let (writer, mut readers) = board(alloc, rt, 2, &[0; SESSIONS], 0)?;
+    let (writer, mut readers) = board(rt.alloc(), rt, 2, &[0; SESSIONS], 0)?;
     let reader = popped(rt, &mut readers);
-    let (taker, mut editors) = open_intake(alloc, 1, readers, &[0; SESSIONS])?;
+    let (taker, mut editors) = open_intake(rt.alloc(), 1, readers, &[0; SESSIONS])?;
     let editor = popped(rt, &mut editors);
     Ok(Beginning {
         writer,
@@ -43,14 +43,14 @@ fn begun<'a, R: Wait + Abort>(rt: &'a R, alloc: Global) -> Result<Beginning<&'a 
 }
 
 // An editor knows a posting once it is told of it, and so does the watcher that it leaves.
-fn watched<R: Wait + Abort>(rt: &R, alloc: Global) -> Result<(), AllocError> {
+fn watched<R: Host>(rt: &R) -> Result<(), AllocError> {
     let Beginning {
         mut writer,
         mut taker,
         mut editor,
         reader: _,
-    } = begun(rt, alloc)?;
-    post_next(rt, alloc, &mut writer, 0);
+    } = begun(rt)?;
+    post_next(rt, &mut writer, 0);
     let told = writer.tell();
     let before = (told.history().len(), editor.known().len());
     same(rt, before, (1, 0), "what was told, and what an editor knew");
@@ -75,14 +75,14 @@ fn in_a_service<J: BoardName>(rt: &impl Abort, editor: Editor, reader: BoardRead
 }
 
 // They are told of one posting before.
-fn served<R: Wait + Abort>(rt: &R, alloc: Global) -> Result<(), AllocError> {
+fn served<R: Host>(rt: &R) -> Result<(), AllocError> {
     let Beginning {
         mut writer,
         taker: _,
         mut editor,
         mut reader,
-    } = begun(rt, alloc)?;
-    post_next(rt, alloc, &mut writer, 0);
+    } = begun(rt)?;
+    post_next(rt, &mut writer, 0);
     let told = writer.tell();
     editor.learn(&told);
     reader.learn(&told);
@@ -92,9 +92,8 @@ fn served<R: Wait + Abort>(rt: &R, alloc: Global) -> Result<(), AllocError> {
 
 #[test]
 fn each_knows_what_it_was_told(rt: HostRuntime) -> Result<(), Fail> {
-    let alloc = rt.alloc();
     let rt = &rt;
-    watched(rt, alloc)?;
-    served(rt, alloc)?;
+    watched(rt)?;
+    served(rt)?;
     Ok(())
 }

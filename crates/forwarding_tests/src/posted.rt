@@ -8,12 +8,17 @@ use forwarders::Forwarder;
 use generations::{Board, BoardReader, BoardWriter, Mark, PostRefused, Posting, Verdict, board};
 use node_table::build;
 use requests::SESSIONS;
-use sample_networks::{Edge, PATH, graph_of, landmarks_at};
+use sample_networks::{PATH, graph_of, landmarks_at};
 use schemes::{Parts, Scheme};
-use std::alloc::{AllocError, Global};
+use std::alloc::{AllocError, AllocGlobal, Global};
 use std::fmt::Debug;
 use std::process::Abort;
 use std::sync::{Arc, Wait};
+
+/// What a test stands on: what ends it, turns of other threads, and memory.
+pub(crate) trait Host: Wait + Abort + AllocGlobal {}
+
+impl<R: Wait + Abort + AllocGlobal> Host for R {}
 
 // The value of an answer that has to have one.
 pub(crate) fn got<T, E: Drop>(rt: &impl Abort, answer: Result<T, E>) -> T {
@@ -52,21 +57,17 @@ pub(crate) fn folds(rt: &impl Abort, board: &mut Board, posting: &Posting) {
     got(rt, board.fold(posting));
 }
 
-/// The scheme of these edges with one landmark.
-pub(crate) fn scheme_of(
-    rt: &impl Abort,
-    alloc: Global,
-    nodes: u16,
-    edges: &[Edge],
-    landmark: u16,
-    generation: u64,
-) -> Scheme {
-    let graph = got(rt, graph_of(alloc, nodes, edges));
-    let landmarks = got(rt, landmarks_at(alloc, nodes, &[landmark]));
+/// The scheme of the path of five nodes with the landmark 2.
+fn path_scheme(rt: &impl Host, generation: u64) -> Scheme {
+    let graph = got(rt, graph_of(rt.alloc(), 5, &PATH));
+    let landmarks = got(rt, landmarks_at(rt.alloc(), 5, &[2]));
     let nodes = graph.nodes() as usize;
     let marked = landmarks.flags().len();
     assert!(rt; marked == nodes);
-    got(rt, build(alloc, &graph, &landmarks, generation, alloc))
+    got(
+        rt,
+        build(rt.alloc(), &graph, &landmarks, generation, rt.alloc()),
+    )
 }
 
 /// A scheme with no node.
@@ -84,8 +85,7 @@ pub(crate) fn empty_scheme(
         directories: Vec::new(alloc),
         homes: Vec::new(alloc),
     };
-    let scheme = Scheme::assemble(parts);
-    Ok(Arc::new(alloc, scheme)?)
+    Ok(Arc::new(alloc, Scheme::assemble(parts))?)
 }
 
 /// The number of the newest generation, 0 where there is none.
@@ -104,42 +104,39 @@ fn shown(rt: &impl Abort, reader: BoardReader, number: u64) -> BoardReader {
 }
 
 /// A board with no posting, and its one reader.
-pub(crate) fn one_reader<'a, R: Wait + Abort>(
+pub(crate) fn one_reader<'a, R: Host>(
     rt: &'a R,
-    alloc: Global,
 ) -> Result<(BoardWriter<&'a R>, BoardReader), AllocError>
     ensures row { IfOk result (λ r. IsInARow r.0 0) }
     ensures opening { IfOk result (λ r. r.1.all.opening ≡ r.0.opening) }
 {
-    let (writer, mut readers) = board(alloc, rt, 1, &[0; SESSIONS], 0)?;
+    let (writer, mut readers) = board(rt.alloc(), rt, 1, &[0; SESSIONS], 0)?;
     let reader = popped(rt, &mut readers);
     Ok((writer, reader))
 }
 
 /// A board with no posting, and its two readers.
-pub(crate) fn two_readers<'a, R: Wait + Abort>(
+pub(crate) fn two_readers<'a, R: Host>(
     rt: &'a R,
-    alloc: Global,
 ) -> Result<(BoardWriter<&'a R>, (BoardReader, BoardReader)), AllocError>
     ensures row { IfOk result (λ r. IsInARow r.0 0) }
     ensures one { IfOk result (λ r. r.1.0.all.opening ≡ r.0.opening) }
     ensures two { IfOk result (λ r. r.1.1.all.opening ≡ r.0.opening) }
 {
-    let (writer, mut readers) = board(alloc, rt, 2, &[0; SESSIONS], 0)?;
+    let (writer, mut readers) = board(rt.alloc(), rt, 2, &[0; SESSIONS], 0)?;
     let one = popped(rt, &mut readers);
     let two = popped(rt, &mut readers);
     Ok((writer, (one, two)))
 }
 
 /// A board with no posting, and a forwarder over its one reader.
-pub(crate) fn one_forwarder<'a, R: Wait + Abort>(
+pub(crate) fn one_forwarder<'a, R: Host>(
     rt: &'a R,
-    alloc: Global,
 ) -> Result<(BoardWriter<&'a R>, Forwarder), AllocError>
     ensures row { IfOk result (λ r. IsInARow r.0 0) }
     ensures opening { IfOk result (λ r. r.1.opening ≡ r.0.opening) }
 {
-    let (writer, reader) = one_reader(rt, alloc)?;
+    let (writer, reader) = one_reader(rt)?;
     Ok((writer, Forwarder::new(reader)))
 }
 
@@ -162,8 +159,7 @@ pub(crate) fn post_now<R: Wait + Drop>(
 
 /// Posts a scheme as the next generation.
 pub(crate) fn post_scheme<R: Wait + Drop>(
-    rt: &impl Abort,
-    alloc: Global,
+    rt: &impl Host,
     writer: &mut BoardWriter<R>,
     posted: u64,
     scheme: Scheme,
@@ -174,25 +170,19 @@ pub(crate) fn post_scheme<R: Wait + Drop>(
     ensures row { IsInARow writer.new (posted + 1) }
 {
     let number = posted + 1;
-    let scheme = Arc::new(alloc, scheme).expect(rt, "memory");
+    let scheme = Arc::new(rt.alloc(), scheme).expect(rt, "memory");
     let _kept = writer.kept();
     post_now(rt, writer, Posting::Generation { number, scheme });
 }
 
 /// Posts the next generation of the path of five nodes.
-pub(crate) fn post_next<R: Wait + Drop>(
-    rt: &impl Abort,
-    alloc: Global,
-    writer: &mut BoardWriter<R>,
-    posted: u64,
-)
+pub(crate) fn post_next<R: Wait + Drop>(rt: &impl Host, writer: &mut BoardWriter<R>, posted: u64)
     requires row { IsInARow writer.old posted }
     requires few { posted < 1000 }
     ensures opening { writer.new.opening ≡ writer.old.opening }
     ensures row { IsInARow writer.new (posted + 1) }
 {
-    let scheme = scheme_of(rt, alloc, 5, &PATH, 2, posted + 1);
-    post_scheme(rt, alloc, writer, posted, scheme);
+    post_scheme(rt, writer, posted, path_scheme(rt, posted + 1));
 }
 
 // Posts one posting. Where the writer has to keep it, the reader sees this newest generation still, until it is retried.
@@ -233,20 +223,14 @@ pub(crate) fn post_seen<R: Wait + Drop>(
     let number = posted + 1;
     let reader = shown(rt, reader, posted);
     let _kept = writer.kept();
-    let reader = post_watched(
-        rt,
-        writer,
-        reader,
-        posted,
-        Posting::Generation { number, scheme },
-    );
+    let posting = Posting::Generation { number, scheme };
+    let reader = post_watched(rt, writer, reader, posted, posting);
     shown(rt, reader, number)
 }
 
 /// Posts the generations of the path behind the one that was posted last, up to this one.
 pub(crate) fn post_up_to<R: Wait + Drop>(
-    rt: &impl Abort,
-    alloc: Global,
+    rt: &impl Host,
     writer: &mut BoardWriter<R>,
     posted: u64,
     last: u64,
@@ -258,6 +242,6 @@ pub(crate) fn post_up_to<R: Wait + Drop>(
     ensures row { IsInARow writer.new last }
 {
     for number in posted..last {
-        post_next(rt, alloc, writer, number);
+        post_next(rt, writer, number);
     }
 }

@@ -3,12 +3,11 @@
 ghost use Rattle.std.specs.Prelude.{◌≡◌};
 ghost use Rattle.forwarding_tests.specs.InARow.{IsInARow};
 
-use crate::posted::{got, one_forwarder, post_next, post_up_to, same};
+use crate::posted::{Host, got, one_forwarder, post_next, post_up_to, same};
 use forwarders::{Forwarder, Refused};
 use generations::BoardWriter;
 use packet_bytes::{PACKET_SIZE, Wire, WireRefused};
 use schemes::{Move, Packet};
-use std::alloc::Global;
 use std::process::Abort;
 use std::sync::Wait;
 use std::test::Fail;
@@ -29,11 +28,10 @@ fn expect_known(rt: &impl Abort, forwarder: &mut Forwarder, notices: u64, latest
 
 #[test]
 fn addresses_of_what_is_there(rt: HostRuntime) -> Result<(), Fail> {
-    let alloc = rt.alloc();
     let rt = &rt;
-    let (mut writer, mut forwarder) = one_forwarder(rt, alloc)?;
+    let (mut writer, mut forwarder) = one_forwarder(rt)?;
     expect_known(rt, &mut forwarder, 0, None);
-    post_next(rt, alloc, &mut writer, 0);
+    post_next(rt, &mut writer, 0);
     forwarder.learn(&writer.tell());
     expect_known(rt, &mut forwarder, 1, Some(1));
     let gone = forwarder.address(2, 4).err();
@@ -75,28 +73,26 @@ fn expect_gone(rt: &impl Abort, forwarder: &mut Forwarder, sent: Packet) {
 
 /// Sees that a packet of the first generation goes on beside three more, and not beside four.
 fn expect_four<W: Wait + Drop>(
-    rt: &impl Abort,
-    alloc: Global,
+    rt: &impl Host,
     writer: &mut BoardWriter<W>,
     forwarder: &mut Forwarder,
 )
     requires row { IsInARow writer.old 0 }
     requires opening { forwarder.old.opening ≡ writer.old.opening }
 {
-    post_up_to(rt, alloc, writer, 0, 4);
+    post_up_to(rt, writer, 0, 4);
     forwarder.learn(&writer.tell());
     expect_known(rt, forwarder, 4, Some(4));
     let packet = first_hop(rt, forwarder);
-    post_next(rt, alloc, writer, 4);
+    post_next(rt, writer, 4);
     forwarder.learn(&writer.tell());
     expect_gone(rt, forwarder, packet);
 }
 
 #[test]
 fn four_generations_stay(rt: HostRuntime) -> Result<(), Fail> {
-    let alloc = rt.alloc();
     let rt = &rt;
-    let (mut writer, mut forwarder) = one_forwarder(rt, alloc)?;
-    expect_four(rt, alloc, &mut writer, &mut forwarder);
+    let (mut writer, mut forwarder) = one_forwarder(rt)?;
+    expect_four(rt, &mut writer, &mut forwarder);
     Ok(())
 }

@@ -61,16 +61,15 @@ fn trips(mut forwarder: Forwarder) -> usize {
 
 #[test]
 fn two_forwarders_while_a_writer_posts(rt: HostRuntime) -> Result<(), Fail> {
-    let alloc = rt.alloc();
     let rt = &rt;
-    let (mut writer, (one, two)) = two_readers(rt, alloc)?;
-    post_next(rt, alloc, &mut writer, 0);
+    let (mut writer, (one, two)) = two_readers(rt)?;
+    post_next(rt, &mut writer, 0);
     let (mut one, mut two) = (Forwarder::new(one), Forwarder::new(two));
     one.learn(&writer.tell());
     two.learn(&writer.tell());
     let first = got(rt, thread::spawn(rt, move || trips(one)));
     let second = got(rt, thread::spawn(rt, move || trips(two)));
-    post_up_to(rt, alloc, &mut writer, 1, 60);
+    post_up_to(rt, &mut writer, 1, 60);
     let found = (first.join(rt), second.join(rt));
     same(rt, found, (TRIPS, TRIPS), "trips");
     Ok(())

@@ -21,8 +21,7 @@ fn counted<R: BufRead>(reader: &mut R, line: &mut Vec<u8>) -> io::Result<u64>
 
 #[test]
 fn counts_lines(rt: HostRuntime) {
-    let alloc = rt.alloc();
-    let rt = &rt;
+    let (rt, alloc) = (&rt, rt.alloc());
     let mut line = Vec::new(alloc);
     for (bytes, want) in [
         (b"".as_slice(), 0u64),

@@ -4,22 +4,19 @@ use std::alloc::Global;
 use std::io::ErrorKind;
 use std::process::Abort;
 
-/// What is read where the call behind so many fails.
-fn told_behind(
-    rt: &impl Abort,
-    alloc: Global,
-    bytes: &[u8],
-    calls: u64,
-    kind: ErrorKind,
-) -> Vec<u8> {
+/// Sees what is read of bytes where the call behind so many fails.
+fn expect(rt: &impl Abort, alloc: Global, rest: &[u8], calls: u64, kind: ErrorKind, want: &[u8]) {
     let pieces = Pieces {
-        rest: bytes,
+        rest,
         size: 1,
         calls,
         kind,
     };
-    told(rt, alloc, &mut buffered(rt, alloc, 4, pieces))
+    let text = told(rt, alloc, &mut buffered(rt, alloc, 4, pieces));
+    assert!(rt; text.as_slice() == want, "behind {calls} calls");
 }
+
+const LINES: &[u8] = b"ab\n\nc\r\nd";
 
 /// What is read of the bytes where the call behind so many fails, of those at which a byte or the end is read.
 const FAILED: [&[u8]; 11] = [
@@ -38,30 +35,23 @@ const FAILED: [&[u8]; 11] = [
 
 #[test]
 fn tells_the_error_of_each_call(rt: HostRuntime) {
-    let alloc = rt.alloc();
     for (calls, want) in FAILED.iter().enumerate() {
-        let text = told_behind(&rt, alloc, b"ab\n\nc\r\nd", calls as u64, ErrorKind::Other);
-        assert!(&rt; text.as_slice() == *want, "a beginning");
+        expect(&rt, rt.alloc(), LINES, calls as u64, ErrorKind::Other, want);
     }
 }
 
 #[test]
 fn reads_again_where_it_was_interrupted(rt: HostRuntime) {
-    let alloc = rt.alloc();
+    let (kind, want) = (ErrorKind::Interrupted, b"[ab][][c\r][d].");
     for calls in 0..12u64 {
-        let text = told_behind(&rt, alloc, b"ab\n\nc\r\nd", calls, ErrorKind::Interrupted);
-        assert!(&rt;
-            text.as_slice() == b"[ab][][c\r][d].".as_slice(),
-            "the whole"
-        );
+        expect(&rt, rt.alloc(), LINES, calls, kind, want);
     }
 }
 
 /// A longer line: the error comes while its rest is read, and nothing is given of it.
 #[test]
 fn tells_an_error_within_a_longer_line(rt: HostRuntime) {
-    let alloc = rt.alloc();
-    let rt = &rt;
+    let (rt, alloc) = (&rt, rt.alloc());
     let mut bytes = Vec::new(alloc);
     got(rt, bytes.resize(65_540, b'x'));
     got(rt, bytes.extend_from_slice(b"\nhop"));
@@ -74,9 +64,7 @@ fn tells_an_error_within_a_longer_line(rt: HostRuntime) {
         (65_545, b">[hop]!".as_slice()),
         (65_546, b">[hop].".as_slice()),
     ] {
-        let text = told_behind(rt, alloc, &bytes, calls, ErrorKind::Other);
-        assert!(rt; text.as_slice() == want, "a beginning");
-        let text = told_behind(rt, alloc, &bytes, calls, ErrorKind::Interrupted);
-        assert!(rt; text.as_slice() == b">[hop].".as_slice(), "the whole");
+        expect(rt, alloc, &bytes, calls, ErrorKind::Other, want);
+        expect(rt, alloc, &bytes, calls, ErrorKind::Interrupted, b">[hop].");
     }
 }

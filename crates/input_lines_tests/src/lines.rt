@@ -69,8 +69,7 @@ fn drawn(rt: &impl Abort, alloc: Global, rng: &mut Xoshiro256PlusPlus) -> Vec<u8
 
 #[test]
 fn reads_what_a_plain_split_gives(rt: HostRuntime) {
-    let alloc = rt.alloc();
-    let rt = &rt;
+    let (rt, alloc) = (&rt, rt.alloc());
     let mut rng = Xoshiro256PlusPlus::seed_from_u64(61);
     for _ in 0..300u16 {
         let bytes = drawn(rt, alloc, &mut rng);
@@ -81,20 +80,11 @@ fn reads_what_a_plain_split_gives(rt: HostRuntime) {
     }
 }
 
-/// So many letters, and then these bytes.
-fn long(rt: &impl Abort, alloc: Global, count: usize, behind: &[u8]) -> Vec<u8> {
-    let mut bytes = Vec::new(alloc);
-    got(rt, bytes.resize(count, b'x'));
+/// These bytes, so many letters, and then these bytes.
+fn long(rt: &impl Abort, alloc: Global, before: &[u8], count: usize, behind: &[u8]) -> Vec<u8> {
+    let mut bytes = got(rt, Vec::from_slice(alloc, before));
+    got(rt, bytes.resize(before.len().saturating_add(count), b'x'));
     got(rt, bytes.extend_from_slice(behind));
-    bytes
-}
-
-/// What is read of a line of so many letters, and then this.
-fn long_told(rt: &impl Abort, alloc: Global, count: usize, behind: &[u8]) -> Vec<u8> {
-    let mut bytes = Vec::new(alloc);
-    got(rt, bytes.extend_from_slice(b"["));
-    let letters = long(rt, alloc, count, behind);
-    got(rt, bytes.extend_from_slice(&letters));
     bytes
 }
 
@@ -107,58 +97,43 @@ const LONG_SIZES: [(usize, usize); 6] = [
     (100_000, 70_000),
 ];
 
+/// The numbers of letters in lines as long as one may be, and in longer ones.
+const LONGEST: [usize; 2] = [65_535, 65_536];
+
+const LONGER: [usize; 4] = [65_537, 65_538, 131_072, 200_000];
+
+/// How many letters a line begins with, and what stands behind them. What is read: the letters behind a bracket or nothing of them, and
+/// then this. A carriage return counts as a byte of the line.
+const LONG: [(&[usize], &[u8], &[u8], &[u8]); 9] = [
+    (&LONGEST, b"\nhop\n", b"[", b"][hop]."),
+    (&LONGEST, b"\n", b"[", b"]."),
+    (&LONGEST, b"", b"[", b"]."),
+    (&[65_535], b"\r\nhop", b"[", b"\r][hop]."),
+    (&[65_536], b"\r\nhop", b"", b">[hop]."),
+    (&LONGER, b"\nhop\n", b"", b">[hop]."),
+    (&LONGER, b"\n\nhop", b"", b">[][hop]."),
+    (&LONGER, b"\n", b"", b">."),
+    (&LONGER, b"", b"", b">."),
+];
+
 #[test]
-fn reads_lines_as_long_as_one_may_be(rt: HostRuntime) {
-    let alloc = rt.alloc();
-    let rt = &rt;
-    for count in [65_535, 65_536] {
-        for (behind, told_behind) in [
-            (b"\nhop\n".as_slice(), b"][hop].".as_slice()),
-            (b"\n".as_slice(), b"].".as_slice()),
-            (b"".as_slice(), b"].".as_slice()),
-        ] {
-            let bytes = long(rt, alloc, count, behind);
-            let want = long_told(rt, alloc, count, told_behind);
+fn reads_lines_as_long_as_one_may_be_and_leaves_longer_ones(rt: HostRuntime) {
+    let (rt, alloc) = (&rt, rt.alloc());
+    for (counts, behind, bracket, told_behind) in &LONG {
+        for count in *counts {
+            let bytes = long(rt, alloc, b"", *count, behind);
+            let letters = if bracket.is_empty() { 0 } else { *count };
+            let want = long(rt, alloc, bracket, letters, told_behind);
             expect(rt, alloc, &bytes, &want, &LONG_SIZES);
         }
     }
 }
 
-#[test]
-fn leaves_longer_lines(rt: HostRuntime) {
-    let alloc = rt.alloc();
-    for count in [65_537, 65_538, 131_072, 200_000] {
-        for (behind, want) in [
-            (b"\nhop\n".as_slice(), b">[hop].".as_slice()),
-            (b"\n\nhop".as_slice(), b">[][hop].".as_slice()),
-            (b"\n".as_slice(), b">.".as_slice()),
-            (b"".as_slice(), b">.".as_slice()),
-        ] {
-            let bytes = long(&rt, alloc, count, behind);
-            expect(&rt, alloc, &bytes, want, &LONG_SIZES);
-        }
-    }
-}
-
-/// A carriage return counts as a byte of the line.
-#[test]
-fn counts_a_carriage_return(rt: HostRuntime) {
-    let alloc = rt.alloc();
-    let rt = &rt;
-    let bytes = long(rt, alloc, 65_535, b"\r\nhop");
-    let want = long_told(rt, alloc, 65_535, b"\r][hop].");
-    expect(rt, alloc, &bytes, &want, &LONG_SIZES);
-    let bytes = long(rt, alloc, 65_536, b"\r\nhop");
-    expect(rt, alloc, &bytes, b">[hop].", &LONG_SIZES);
-}
-
 /// A longer line behind another, and a line behind both.
 #[test]
 fn leaves_each_of_two_longer_lines(rt: HostRuntime) {
-    let alloc = rt.alloc();
-    let rt = &rt;
-    let mut bytes = long(rt, alloc, 70_000, b"\n");
-    let again = long(rt, alloc, 65_537, b"\nhop\n");
-    got(rt, bytes.extend_from_slice(&again));
+    let (rt, alloc) = (&rt, rt.alloc());
+    let longer = long(rt, alloc, b"", 70_000, b"\n");
+    let bytes = long(rt, alloc, &longer, 65_537, b"\nhop\n");
     expect(rt, alloc, &bytes, b">>[hop].", &LONG_SIZES);
 }

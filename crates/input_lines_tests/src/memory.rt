@@ -45,8 +45,7 @@ fn long(rt: &impl Abort, alloc: Global, count: usize, behind: &[u8]) -> Vec<u8> 
 
 #[test]
 fn reads_after_a_want_of_memory(rt: HostRuntime) {
-    let alloc = rt.alloc();
-    let rt = &rt;
+    let (rt, alloc) = (&rt, rt.alloc());
     expect_again(rt, alloc, b"tables\nhop", b"tables", b"hop");
     expect_again(rt, alloc, b"tables", b"tables", b"");
     let bytes = long(rt, alloc, 65_536, b"\nhop");
@@ -57,8 +56,7 @@ fn reads_after_a_want_of_memory(rt: HostRuntime) {
 /// A longer line takes no memory at all, and neither does an empty one.
 #[test]
 fn leaves_a_longer_line_without_memory(rt: HostRuntime) {
-    let alloc = rt.alloc();
-    let rt = &rt;
+    let (rt, alloc) = (&rt, rt.alloc());
     let bytes = long(rt, alloc, 65_537, b"\nhop");
     let mut line = Vec::new(alloc);
     let mut left = bytes.as_slice();

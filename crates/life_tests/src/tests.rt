@@ -13,10 +13,9 @@ use life_chain::{Life, LifeReport, LivesReport, lives, lives_in_memory, lives_on
 use rand_core::{Rng, SeedableRng};
 use rand_xoshiro::Xoshiro256PlusPlus;
 use requests::WORN_LIMIT;
-use std::alloc::{AllocError, Global};
+use std::alloc::{AllocError, AllocGlobal};
 use std::fmt::Debug;
 use std::process::Abort;
-use std::test::Fail;
 
 mod again;
 mod drawn;
@@ -36,4 +35,4 @@ use helpers::*;
 use plain_graph::PlainGraph;
 use runs::Drawer;
 use slow_machine::{News, SlowMachine, State};
-use worlds::{answer, counted, fresh, rebuild_at_two};
+use worlds::{answer, world_of};

@@ -99,8 +99,7 @@ const ROWS: [Row<'static>; 7] = [
 /// Of two children as heavy the one with the smaller node is next to the root, wherever the search found it.
 #[test]
 fn numbers_a_tie_by_the_smaller_node(rt: HostRuntime) {
-    let alloc = rt.alloc();
-    let rt = &rt;
+    let (rt, alloc) = (&rt, rt.alloc());
     let tie = tie();
     let all = got(rt, flat_of(rt, alloc, &tie, alloc));
     same(rt, all.len(), 7, "the members");
@@ -112,8 +111,7 @@ fn numbers_a_tie_by_the_smaller_node(rt: HostRuntime) {
 
 #[test]
 fn numbers_small_trees_as_their_trees_do(rt: HostRuntime) {
-    let alloc = rt.alloc();
-    let rt = &rt;
+    let (rt, alloc) = (&rt, rt.alloc());
     expect_same(rt, alloc, &five());
     expect_same(rt, alloc, &[root(65_535)]);
     expect_same(rt, alloc, &[root(65_535), below(65_535, 0, 65_535, 65_534)]);
@@ -122,8 +120,7 @@ fn numbers_small_trees_as_their_trees_do(rt: HostRuntime) {
 /// The largest trees, over each allocator.
 #[test]
 fn numbers_the_largest_trees_as_their_trees_do(rt: HostRuntime) {
-    let alloc = rt.alloc();
-    let rt = &rt;
+    let (rt, alloc) = (&rt, rt.alloc());
     expect_same(rt, alloc, &listed(rt, alloc, 16_384, on_star));
     let members = listed(rt, alloc, 16_383, in_pairs);
     expect_same(rt, alloc, &members);
@@ -140,8 +137,7 @@ fn numbers_the_largest_trees_as_their_trees_do(rt: HostRuntime) {
 /// The path of all nodes is numbered on any stack; only the tree beside it needs a deep one.
 #[test]
 fn numbers_the_deepest_path(rt: HostRuntime) {
-    let alloc = rt.alloc();
-    let rt = &rt;
+    let (rt, alloc) = (&rt, rt.alloc());
     let members = listed(rt, alloc, 16_384, on_path);
     let flat = got(rt, flat_of(rt, alloc, &members, alloc));
     let handle = got(rt, rt.clone());
@@ -157,8 +153,7 @@ fn numbers_the_deepest_path(rt: HostRuntime) {
 
 #[test]
 fn numbers_300_drawn_trees_as_their_trees_do(rt: HostRuntime) {
-    let alloc = rt.alloc();
-    let rt = &rt;
+    let (rt, alloc) = (&rt, rt.alloc());
     let mut rng = Xoshiro256PlusPlus::seed_from_u64(23);
     for _ in 0..300 {
         let members = drawn(rt, alloc, &mut rng);
@@ -188,8 +183,7 @@ fn expect_firsts(rt: &impl Abort, alloc: Global, members: &[Member], firsts: &[u
 /// Made for the refusal of each allocation in turn: what had no memory is made again.
 #[test]
 fn numbers_after_a_want_of_memory(rt: HostRuntime) {
-    let alloc = rt.alloc();
-    let rt = &rt;
+    let (rt, alloc) = (&rt, rt.alloc());
     expect_firsts(rt, alloc, &five(), &[0u16, 1, 3, 2, 4]);
     // few members of nodes far apart, which are sorted
     let far = [

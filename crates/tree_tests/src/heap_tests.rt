@@ -48,8 +48,7 @@ const HEAPS: [(Made, u16, usize, usize); 4] = [
 
 #[test]
 fn each_growth_refused(rt: HostRuntime) {
-    let alloc = rt.alloc();
-    let rt = &rt;
+    let (rt, alloc) = (&rt, rt.alloc());
     for (made, n, step, least) in &HEAPS {
         let members = listed(rt, alloc, *n, in_pairs);
         let mut refused: usize = 0;

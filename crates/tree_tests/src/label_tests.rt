@@ -68,8 +68,7 @@ const STEPS: [(u16, u16, &[u16], TreeStep); 6] = [
 
 #[test]
 fn steps_of_five_nodes(rt: HostRuntime) {
-    let alloc = rt.alloc();
-    let rt = &rt;
+    let (rt, alloc) = (&rt, rt.alloc());
     let all = numbered(rt, alloc, &five());
     for (node, first, lights, want) in &STEPS {
         let at = of_node(rt, &all, *node);
@@ -87,8 +86,7 @@ const IN_PAIRS: [(u16, usize); 2] = [(4_095, 11), (16_383, 13)];
 /// The label of the last of all has these light ports, under each allocator the same.
 #[test]
 fn the_last_of_all_pairs_has_the_most_lights(rt: HostRuntime) {
-    let alloc = rt.alloc();
-    let rt = &rt;
+    let (rt, alloc) = (&rt, rt.alloc());
     for (count, lights) in IN_PAIRS {
         let members = listed(rt, alloc, count, in_pairs);
         let all = numbered(rt, alloc, &members);
@@ -122,8 +120,7 @@ fn plain_members(all: &Numbered, last: u16) -> usize {
 
 #[test]
 fn a_long_path_has_no_light_port(rt: HostRuntime) {
-    let alloc = rt.alloc();
-    let rt = &rt;
+    let (rt, alloc) = (&rt, rt.alloc());
     for count in [4_096u16, 16_384] {
         let members = listed(rt, alloc, count, on_path);
         let handle = got(rt, rt.clone());
@@ -199,8 +196,7 @@ fn expect_climbed(rt: &impl Abort, all: &Numbered, members: &[Member]) {
 
 #[test]
 fn steps_follow_the_paths_of_200_drawn_trees(rt: HostRuntime) {
-    let alloc = rt.alloc();
-    let rt = &rt;
+    let (rt, alloc) = (&rt, rt.alloc());
     let mut rng = Xoshiro256PlusPlus::seed_from_u64(11);
     for _ in 0..200 {
         let members = drawn(rt, alloc, &mut rng);

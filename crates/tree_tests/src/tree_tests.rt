@@ -26,24 +26,27 @@ fn child_of<'a, A: Allocator>(rt: &impl Abort, twig: &'a Twig<A>, place: usize) 
     got(rt, twig.children().get(place).ok_or("no child"))
 }
 
-/// The path 0 - 1 - 2 - 3 - 4 seen from node 2: node 1 is heavy by the tie.
+/// The path 0 - 1 - 2 - 3 - 4 seen from node 2, where node 1 is heavy by the tie: the places on the way down to a member, and the member.
+const FIVE: [(&[usize], Seen); 5] = [
+    (&[], (2, None, None, 5, 2)),
+    (&[0], (1, Some(1), Some(0), 2, 1)),
+    (&[1], (3, Some(0), Some(1), 2, 1)),
+    (&[0, 0], (0, Some(0), Some(0), 1, 0)),
+    (&[1, 0], (4, Some(0), Some(1), 1, 0)),
+];
+
 #[test]
 fn path_of_five(rt: HostRuntime) {
-    let alloc = rt.alloc();
-    let rt = &rt;
+    let (rt, alloc) = (&rt, rt.alloc());
     let tree = tree_of(rt, alloc, alloc, &five());
-    let top = tree.root();
     same(rt, tree.size(), 5, "the size");
-    same(rt, seen(top), (2, None, None, 5, 2), "the root");
-    let (left, right) = (child_of(rt, top, 0), child_of(rt, top, 1));
-    let found = seen(left);
-    same(rt, found, (1, Some(1), Some(0), 2, 1), "the heavy child");
-    let found = seen(right);
-    same(rt, found, (3, Some(0), Some(1), 2, 1), "the other child");
-    let (first, last) = (child_of(rt, left, 0), child_of(rt, right, 0));
-    let found = seen(first);
-    same(rt, found, (0, Some(0), Some(0), 1, 0), "the first end");
-    same(rt, seen(last), (4, Some(0), Some(1), 1, 0), "the last end");
+    for (way, want) in &FIVE {
+        let mut twig = tree.root();
+        for place in *way {
+            twig = child_of(rt, twig, *place);
+        }
+        same(rt, seen(twig), *want, "a member");
+    }
 }
 
 /// Below each i hang 2i + 1 and 2i + 2, the smaller first.
@@ -69,8 +72,7 @@ fn expect_pairs<A: Allocator>(rt: &impl Abort, tree: &RouteTree<A>) {
 
 #[test]
 fn same_tree_under_each_allocator(rt: HostRuntime) {
-    let alloc = rt.alloc();
-    let rt = &rt;
+    let (rt, alloc) = (&rt, rt.alloc());
     let members = listed(rt, alloc, 16_383, in_pairs);
     expect_pairs(rt, &tree_of(rt, alloc, alloc, &members));
     let heap = got(rt, LocalHeap::new(alloc, STACK_LEN));
@@ -82,8 +84,7 @@ fn same_tree_under_each_allocator(rt: HostRuntime) {
 
 #[test]
 fn star_of_leaves(rt: HostRuntime) {
-    let alloc = rt.alloc();
-    let rt = &rt;
+    let (rt, alloc) = (&rt, rt.alloc());
     let members = listed(rt, alloc, 16_384, on_star);
     let tree = tree_of(rt, alloc, alloc, &members);
     let leaves = tree.root().children();
@@ -126,8 +127,7 @@ fn grown_under_each(rt: &impl Abort, alloc: Global, members: &[Member]) -> usize
 /// A tree as deep as may be, grown, walked and dropped on a stack of 64 MiB.
 #[test]
 fn deepest_path(rt: HostRuntime) {
-    let alloc = rt.alloc();
-    let rt = &rt;
+    let (rt, alloc) = (&rt, rt.alloc());
     let members = listed(rt, alloc, 16_384, on_path);
     let handle = got(rt, rt.clone());
     let thread = thread::Builder::new().stack_size(STACK_LEN);
@@ -149,8 +149,7 @@ fn fit(rt: &impl Abort, alloc: Global, members: &[Member]) -> bool {
 
 #[test]
 fn no_members_of_a_tree(rt: HostRuntime) {
-    let alloc = rt.alloc();
-    let rt = &rt;
+    let (rt, alloc) = (&rt, rt.alloc());
     let rows: [&[Member]; 8] = [
         &[],
         &[below(1, 0, 0, 0)],
@@ -189,8 +188,7 @@ const HEAVY_FIRST: [(u16, usize); 5] = [(7, 3), (1, 1), (4, 1), (8, 2), (9, 3)];
 
 #[test]
 fn heavy_first_by_hand(rt: HostRuntime) {
-    let alloc = rt.alloc();
-    let rt = &rt;
+    let (rt, alloc) = (&rt, rt.alloc());
     let mut children = Vec::new(alloc);
     for (node, leaves) in &TUFTS {
         let tuft = got(rt, tuft(alloc, *node, *leaves));

@@ -114,11 +114,8 @@ pub(crate) fn drawn_generation(rng: &mut Xoshiro256PlusPlus) -> u64 {
 
 /// How many nodes a generation has, 1 where it isn't posted.
 pub(crate) fn nodes_of(networks: &[Network], generation: u64) -> u16 {
-    match generation.checked_sub(1) {
-        Some(place) => match networks.get(place as usize) {
-            Some(network) => u16::try_from(network.len()).unwrap_or(0),
-            None => 1,
-        },
+    match networks.get(generation.wrapping_sub(1) as usize) {
+        Some(network) => u16::try_from(network.len()).unwrap_or(0),
         None => 1,
     }
 }

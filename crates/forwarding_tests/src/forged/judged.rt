@@ -6,10 +6,7 @@ use forwarders::{ByteMove, BytesRefused};
 const SIZE: usize = 43;
 
 fn byte(bytes: &[u8], at: usize) -> u8 {
-    match bytes.get(at) {
-        Some(byte) => *byte,
-        None => 0,
-    }
+    bytes.get(at).copied().unwrap_or(0)
 }
 
 /// The number in the two bytes from here on.
@@ -27,16 +24,12 @@ fn hops_left(bytes: &[u8]) -> u16 {
 
 /// The network of the generation that the bytes name, if it is posted.
 pub(crate) fn network_of<'a>(networks: &'a [Network], bytes: &[u8]) -> Option<&'a Network> {
-    let high = [0usize, 1, 2, 3, 4, 5];
-    for at in &high {
-        if byte(bytes, *at) != 0 {
+    for at in 0..6usize {
+        if byte(bytes, at) != 0 {
             return None;
         }
     }
-    match number(bytes, 6) {
-        0 => None,
-        generation => networks.get(generation as usize - 1),
-    }
+    networks.get(number(bytes, 6).checked_sub(1)? as usize)
 }
 
 /// Why the bytes spell no packet.
@@ -80,14 +73,9 @@ fn leads(network: &Network, at: u16, port: u16, next: u16) -> bool {
 
 /// Whether these are the same bytes with one hop less.
 fn one_hop_less(before: &[u8], after: &[u8]) -> bool {
-    match hops_left(before).checked_sub(1) {
-        Some(left) => {
-            hops_left(after) == left
-                && before.get(..14) == after.get(..14)
-                && before.get(16..) == after.get(16..)
-        }
-        None => false,
-    }
+    hops_left(before).checked_sub(1) == Some(hops_left(after))
+        && before.get(..14) == after.get(..14)
+        && before.get(16..) == after.get(16..)
 }
 
 /// Whether a node may answer so, where no plainer refusal holds.

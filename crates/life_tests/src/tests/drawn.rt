@@ -27,16 +27,12 @@ fn word_of(drawer: &mut Drawer) -> u64 {
 }
 
 // A life of forty events.
-fn drawn_life(rt: &impl Abort, alloc: Global, drawer: &mut Drawer) -> Life {
-    let mut events = Vec::new(alloc);
-    for _ in 0..40u8 {
-        got(rt, events.push(got(rt, drawer.event(rt, alloc))));
-    }
+fn drawn_life(rt: &impl Host, drawer: &mut Drawer) -> Life {
     Life {
         sessions: SEATS,
         capacity: PLACES,
-        words: Vec::new(alloc),
-        events,
+        words: Vec::new(rt.alloc()),
+        events: drawer.events(rt, 40),
         plan: plan_of(drawer),
         word: word_of(drawer),
     }
@@ -47,43 +43,16 @@ fn opened_to(life: &LifeReport, state: &State) -> bool {
     life.count == state.count && life.tickets == state.tickets && state.graph.is(&life.graph)
 }
 
-// What a life opened to: what the one before has, or may have left.
-fn state_of(
-    rt: &impl Abort,
-    alloc: Global,
-    life: &LifeReport,
-    before: &SlowMachine,
-    tally: &mut Tally,
-) -> State {
-    if opened_to(life, &before.state) {
-        return got(rt, before.state.copy(alloc));
-    }
-    tally.kept = tally.kept.wrapping_add(1);
-    match &before.lost {
-        Some(lost) if opened_to(life, lost) => got(rt, lost.copy(alloc)),
-        _ => panic!(rt; "what a crash left"),
-    }
-}
-
-fn times(list: &[(u8, u64)], wanted: &(u8, u64)) -> usize {
-    let mut times = 0usize;
-    for pair in list {
-        if pair == wanted {
-            times = times.wrapping_add(1);
-        }
-    }
-    times
-}
-
 // Sees that each of some tickets is in once.
 fn are_in_once(rt: &impl Abort, joined: &[(u8, u64)], wanted: &[(u8, u64)]) {
     for pair in wanted {
-        same(rt, times(joined, pair), 1, "in once");
+        let times = joined.iter().filter(|other| *other == pair).count();
+        same(rt, times, 1, "in once");
     }
 }
 
 // How often something came up.
-#[derive(Clone, Copy, Debug, PartialEq, Eq)]
+#[derive(Drop)]
 struct Tally {
     committed: u64,
     failed: u64,
@@ -102,68 +71,85 @@ fn count(tally: &mut Tally, reply: Reply) {
     *place = place.wrapping_add(1);
 }
 
-// A slow machine beside a life that was reported, which opened to this: each answer is the same.
-fn judged(
-    rt: &impl Abort,
-    alloc: Global,
-    life: &Life,
-    lived: &LifeReport,
-    opened: State,
-    tally: &mut Tally,
-) -> SlowMachine {
-    let mut slow = begun(rt, alloc, opened, life.plan);
-    let rebuilt = got(rt, slow.rebuild(alloc));
-    same(rt, lived.rebuilt, rebuilt, "rebuilt");
-    same(rt, lived.replies.len(), life.events.len(), "replies");
-    for (event, reply) in life.events.iter().zip(lived.replies.iter()) {
-        let good = got(rt, slow.judges(alloc, event, *reply));
-        same(rt, (*reply, good), (*reply, true), "a reply");
-        count(tally, *reply);
+fn begun(rt: &impl Host, state: State, plan: Plan) -> SlowMachine {
+    SlowMachine::new(rt, state, SEATS, PLACES, plan)
+}
+
+// Lives, one behind the other: the tickets that are in, and the machine beside the last of them.
+#[derive(Drop)]
+struct Chain {
+    joined: Vec<(u8, u64)>,
+    slow: SlowMachine,
+}
+
+impl Chain {
+    // What a life opened to: what the one before has, or may have left.
+    fn opened(&self, rt: &impl Host, life: &LifeReport, tally: &mut Tally) -> State {
+        if opened_to(life, &self.slow.state) {
+            return self.slow.state.copy(rt);
+        }
+        tally.kept = tally.kept.wrapping_add(1);
+        match &self.slow.lost {
+            Some(lost) if opened_to(life, lost) => lost.copy(rt),
+            _ => panic!(rt; "what a crash left"),
+        }
     }
-    slow
-}
 
-fn begun(rt: &impl Abort, alloc: Global, state: State, plan: Plan) -> SlowMachine {
-    got(rt, SlowMachine::new(alloc, state, SEATS, PLACES, plan))
-}
+    // Puts the tickets in that a crash has left, as many as the count rose. Each is in once, and so is each that was told as accepted.
+    fn join(&mut self, rt: &impl Host, count: u64) {
+        let kept = count.wrapping_sub(self.joined.len() as u64) as usize;
+        let tickets = self.slow.accepted.get(..kept).ok_or("too many");
+        got(rt, self.joined.extend_from_slice(got(rt, tickets)));
+        are_in_once(rt, &self.joined, &self.slow.acknowledged(rt));
+        are_in_once(rt, &self.joined, &self.joined);
+    }
 
-// Puts the tickets in that a crash has left, as many as the count rose.
-fn join(rt: &impl Abort, joined: &mut Vec<(u8, u64)>, slow: &SlowMachine, kept: u64) {
-    let Some(tickets) = slow.accepted.get(..kept as usize) else {
-        panic!(rt; "more than was accepted");
-    };
-    got(rt, joined.extend_from_slice(tickets));
+    // A new machine beside a life that was reported: each answer is the same.
+    fn goes_on(&mut self, rt: &impl Host, life: &Life, lived: &LifeReport, tally: &mut Tally) {
+        let opened = self.opened(rt, lived, tally);
+        self.join(rt, opened.count);
+        self.slow = begun(rt, opened, life.plan);
+        same(rt, lived.rebuilt, self.slow.rebuild(rt), "rebuilt");
+        same(rt, lived.replies.len(), life.events.len(), "replies");
+        for (event, reply) in life.events.iter().zip(lived.replies.iter()) {
+            let good = self.slow.judges(rt, event, *reply);
+            same(rt, (*reply, good), (*reply, true), "a reply");
+            count(tally, *reply);
+        }
+    }
 }
 
 // Judges lives that all opened.
-fn judge(rt: &impl Abort, alloc: Global, asked: &[Life], report: &LivesReport, tally: &mut Tally) {
-    let mut joined = Vec::new(alloc);
-    let mut started = 0u64;
-    let mut slow = begun(rt, alloc, State::first(alloc, NODES), Plan::None);
+fn judge(rt: &impl Host, asked: &[Life], report: &LivesReport, tally: &mut Tally) {
+    let mut chain = Chain {
+        joined: Vec::new(rt.alloc()),
+        slow: begun(rt, State::first(rt, NODES), Plan::None),
+    };
     for (life, lived) in asked.iter().zip(report.lives.iter()) {
-        let opened = state_of(rt, alloc, lived, &slow, tally);
-        join(rt, &mut joined, &slow, opened.count.wrapping_sub(started));
-        are_in_once(rt, &joined, &got(rt, slow.acknowledged(alloc)));
-        are_in_once(rt, &joined, &joined);
-        started = opened.count;
-        slow = judged(rt, alloc, life, lived, opened, tally);
+        chain.goes_on(rt, life, lived, tally);
     }
 }
 
-// Three drawn lives and one that only opens. Of each eighth list a call of the first opening may fail, and of no other one.
-fn lives_as_drawn(rt: &impl Abort, alloc: Global, list: u64, tally: &mut Tally) {
+// Three drawn lives and one that only opens.
+fn four_lives(rt: &impl Host, list: u64) -> Vec<Life> {
     let mut drawer = Drawer::new(list, NODES, SEATS as u16);
-    let mut asked = lives_of(rt, alloc, &[OPENING]);
-    for place in 0..3usize {
-        let life = drawn_life(rt, alloc, &mut drawer);
-        got(rt, asked.insert(place.min(asked.len()), life));
+    let mut asked = Vec::new(rt.alloc());
+    for _ in 0..3u8 {
+        got(rt, asked.push(drawn_life(rt, &mut drawer)));
     }
-    let mut disk = formatted(rt, alloc, NODES);
+    got(rt, asked.push(got(rt, made(rt, &OPENING))));
+    asked
+}
+
+// Of each eighth list a call of the first opening may fail, and of no other one.
+fn lives_as_drawn(rt: &impl Host, list: u64, tally: &mut Tally) {
+    let asked = four_lives(rt, list);
+    let mut disk = formatted(rt, NODES);
     let is_armed = list % 8 == 0;
     if is_armed {
         disk.fail_at(1 + list / 8 % 8);
     }
-    let report = got(rt, lives(alloc, disk, &asked));
+    let report = got(rt, lives(rt.alloc(), disk, &asked));
     if report.refused.is_some() {
         let refused = (report.refused, report.lives.len(), is_armed);
         same(rt, refused, (Some(OpenRefused::Device), 0, true), "refused");
@@ -171,7 +157,7 @@ fn lives_as_drawn(rt: &impl Abort, alloc: Global, list: u64, tally: &mut Tally) 
         return;
     }
     same(rt, report.lives.len(), 4, "lives");
-    judge(rt, alloc, &asked, &report, tally);
+    judge(rt, &asked, &report, tally);
 }
 
 #[test]
@@ -184,15 +170,10 @@ fn drawn_lives(rt: HostRuntime) {
         refused: 0,
     };
     for list in 0..200u64 {
-        lives_as_drawn(&rt, rt.alloc(), list, &mut tally);
+        lives_as_drawn(&rt, list, &mut tally);
     }
-    let Tally {
-        committed,
-        failed,
-        kept,
-        already_in,
-        refused,
-    } = tally;
-    let least = committed.min(failed).min(kept).min(already_in).min(refused);
-    same(&rt, least > 0, true, "each comes up");
+    let calls = [tally.committed, tally.failed, tally.already_in];
+    same(&rt, calls.map(|times| times > 0), [true; 3], "replies");
+    let openings = [tally.kept, tally.refused];
+    same(&rt, openings.map(|times| times > 0), [true; 2], "openings");
 }

@@ -18,7 +18,7 @@ const AGAIN: [Op; 1] = [Op::Set(0, 1, 1)];
 // On the path's device, by the landmark 2: what is asked for again is in, and a packet goes from end to end.
 const SECOND: [Step; 13] = [
     Step::Submit(0, 1, &PATH),
-    Step::Look(0),
+    Step::Look(0, usize::MAX),
     Step::Submit(0, 2, &AGAIN),
     Step::Submit(0, 3, &AGAIN),
     Step::Submit(1, 1, &AGAIN),
@@ -57,7 +57,7 @@ const TWO: [Asked; 2] = [
         word: 0,
     },
     Asked {
-        words: &[u64::MAX, u64::MAX, 0],
+        words: &AT_TWO,
         steps: &SECOND,
         plan: Plan::None,
         word: 0,
@@ -70,30 +70,15 @@ const ROWS: [(Reply, &[Reply]); 2] = [
     (Reply::Rebuilt { generation: 1 }, &SECOND_REPLIES),
 ];
 
-// The first answer that isn't the one that is wanted.
-fn departure(found: &[Reply], want: &[Reply]) -> Option<Reply> {
+// Whether these are the answers that are wanted. The first that isn't has to be Memory.
+fn are_as_wanted(rt: &impl Abort, found: &[Reply], want: &[Reply]) -> bool {
     for (found, want) in found.iter().zip(want.iter()) {
         if found != want {
-            return Some(*found);
+            same(rt, *found, Reply::Memory, "an answer");
+            return false;
         }
     }
-    None
-}
-
-// Whether a life is answered as the row says. The first answer that isn't has to be Memory.
-fn is_as_row(rt: &impl Abort, life: &LifeReport, rebuilt: Reply, replies: &[Reply]) -> bool {
-    same(rt, life.replies.len(), replies.len(), "replies");
-    let departure = match departure(&[life.rebuilt], &[rebuilt]) {
-        None => departure(life.replies.as_slice(), replies),
-        built => built,
-    };
-    same(
-        rt,
-        matches!(departure, None | Some(Reply::Memory)),
-        true,
-        "Memory or the row's answer",
-    );
-    departure.is_none()
+    true
 }
 
 // Whether all lives are answered as the rows say. A life that couldn't open had no memory.
@@ -103,7 +88,9 @@ fn are_as_rows(rt: &impl Abort, report: &LivesReport) -> bool {
             same(rt, report.refused, Some(OpenRefused::Memory), "an opening");
             return false;
         };
-        if !is_as_row(rt, life, *rebuilt, replies) {
+        let found = life.replies.as_slice();
+        same(rt, found.len(), replies.len(), "replies");
+        if !are_as_wanted(rt, &[life.rebuilt], &[*rebuilt]) || !are_as_wanted(rt, found, replies) {
             return false;
         }
     }
@@ -113,9 +100,9 @@ fn are_as_rows(rt: &impl Abort, report: &LivesReport) -> bool {
     true
 }
 
-fn goes_well(rt: &impl Abort, alloc: Global) -> bool {
-    let asked = lives_of(rt, alloc, &TWO);
-    match lives(alloc, formatted(rt, alloc, 5), &asked) {
+fn goes_well(rt: &impl Host) -> bool {
+    let asked = lives_of(rt, &TWO);
+    match lives(rt.alloc(), formatted(rt, 5), &asked) {
         Ok(report) => are_as_rows(rt, &report),
         Err(_) => false,
     }
@@ -123,9 +110,8 @@ fn goes_well(rt: &impl Abort, alloc: Global) -> bool {
 
 #[test]
 fn two_lives_once_memory_is_there(rt: HostRuntime) {
-    let alloc = rt.alloc();
     let rt = &rt;
-    if !goes_well(rt, alloc) {
-        same(rt, goes_well(rt, alloc), true, "made again");
+    if !goes_well(rt) {
+        same(rt, goes_well(rt), true, "made again");
     }
 }

@@ -1,28 +1,43 @@
 // A graph as a list of its edges, and what ops do to it.
 use super::*;
 
+// Two nodes, in any order, and the weight of the edge between them.
+type Edge = (u16, u16, u32);
+
 // A graph of nodes numbered from 0.
 #[derive(Drop)]
 pub(super) struct PlainGraph {
     pub(super) nodes: u16,
-    // Two nodes each, in any order, and the weight of the edge between them.
-    pub(super) edges: Vec<(u16, u16, u32)>,
+    pub(super) edges: Vec<Edge>,
+}
+
+// Whether an edge is the one between two nodes.
+fn joins(edge: &Edge, x: u16, y: u16) -> bool {
+    (edge.0 == x && edge.1 == y) || (edge.0 == y && edge.1 == x)
+}
+
+// The nodes of an op, and the weight of the edge that it leaves.
+fn parts(op: Op) -> (u16, u16, Option<u32>) {
+    match op {
+        Op::Add(a, b, weight) | Op::Set(a, b, weight) => (a, b, Some(weight)),
+        Op::Cut(a, b) => (a, b, None),
+    }
 }
 
 impl PlainGraph {
     // The same graph.
-    pub(super) fn copy(&self, alloc: Global) -> Result<PlainGraph, AllocError> {
-        Ok(PlainGraph {
+    pub(super) fn copy(&self, rt: &impl Host) -> PlainGraph {
+        PlainGraph {
             nodes: self.nodes,
-            edges: Vec::from_slice(alloc, self.edges.as_slice())?,
-        })
+            edges: got(rt, Vec::from_slice(rt.alloc(), self.edges.as_slice())),
+        }
     }
 
     // The weight of the edge between two nodes, if there is one.
     pub(super) fn weight(&self, x: u16, y: u16) -> Option<u32> {
-        for (a, b, weight) in &self.edges {
-            if (*a == x && *b == y) || (*a == y && *b == x) {
-                return Some(*weight);
+        for edge in &self.edges {
+            if joins(edge, x, y) {
+                return Some(edge.2);
             }
         }
         None
@@ -40,10 +55,7 @@ impl PlainGraph {
 
     // Why an op is refused.
     fn refused(&self, op: Op) -> Option<Code> {
-        let (a, b, weight) = match op {
-            Op::Add(a, b, weight) | Op::Set(a, b, weight) => (a, b, Some(weight)),
-            Op::Cut(a, b) => (a, b, None),
-        };
+        let (a, b, weight) = parts(op);
         if a >= self.nodes || b >= self.nodes {
             return Some(Code::NoNode);
         }
@@ -61,39 +73,25 @@ impl PlainGraph {
     }
 
     // Makes an op that isn't refused.
-    fn make(&mut self, alloc: Global, op: Op) -> Result<(), AllocError> {
-        let (x, y, new) = match op {
-            Op::Add(a, b, weight) | Op::Set(a, b, weight) => (a, b, Some(weight)),
-            Op::Cut(a, b) => (a, b, None),
-        };
-        let mut edges = Vec::new(alloc);
-        for (a, b, weight) in &self.edges {
-            if !((*a == x && *b == y) || (*a == y && *b == x)) {
-                edges.push((*a, *b, *weight))?;
-            }
-        }
+    fn make(&mut self, rt: &impl Host, op: Op) {
+        let (a, b, new) = parts(op);
+        self.edges.retain(|edge| !joins(edge, a, b));
         if let Some(weight) = new {
-            edges.push((x, y, weight))?;
+            got(rt, self.edges.push((a, b, weight)));
         }
-        self.edges = edges;
-        Ok(())
     }
 
-    // Makes all ops; or tells the place of the first that is refused, and why.
-    pub(super) fn make_all(
-        &mut self,
-        alloc: Global,
-        ops: &[Op],
-    ) -> Result<Option<(usize, Code)>, AllocError> {
-        let mut next = self.copy(alloc)?;
+    // Makes all ops, or none; tells the place of the first that is refused, and why.
+    pub(super) fn make_all(&mut self, rt: &impl Host, ops: &[Op]) -> Option<(usize, Code)> {
+        let mut next = self.copy(rt);
         for (place, op) in ops.iter().enumerate() {
             if let Some(code) = next.refused(*op) {
-                return Ok(Some((place, code)));
+                return Some((place, code));
             }
-            next.make(alloc, *op)?;
+            next.make(rt, *op);
         }
         self.edges = next.edges;
-        Ok(None)
+        None
     }
 
     // The neighbour behind a port, with the weight of the edge: ports go over the neighbours in ascending order.
@@ -111,15 +109,13 @@ impl PlainGraph {
     }
 
     // The distance between two nodes, where there is a walk: Bellman and Ford's search.
-    pub(super) fn distance(
-        &self,
-        alloc: Global,
-        from: u16,
-        to: u16,
-    ) -> Result<Option<u64>, AllocError> {
-        let mut distances = Vec::new(alloc);
+    pub(super) fn distance(&self, rt: &impl Host, from: u16, to: u16) -> Option<u64> {
+        let mut distances = Vec::new(rt.alloc());
         for x in 0..self.nodes {
-            distances.push(if x == from { Some(0u64) } else { None })?;
+            got(
+                rt,
+                distances.push(if x == from { Some(0u64) } else { None }),
+            );
         }
         for _ in 0..self.nodes {
             for (a, b, weight) in &self.edges {
@@ -127,7 +123,7 @@ impl PlainGraph {
                 offer(&mut distances, *b, *a, *weight);
             }
         }
-        Ok(distances.get(to as usize).copied().flatten())
+        distances.get(to as usize).copied().flatten()
     }
 }
 

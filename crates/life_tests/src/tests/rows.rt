@@ -33,37 +33,31 @@ const ENDS: [(Op, Reply, Reply, Outcome); 3] = [
 
 #[test]
 fn wears_out_at_the_last_count(rt: HostRuntime) {
-    let alloc = rt.alloc();
     let rt = &rt;
-    let mut world = counted(rt, alloc, 5, WORN_LIMIT - 1, 1, 1, Plan::None);
+    let mut world = world_of(rt, 5, WORN_LIMIT - 1, 1, 1);
     for (ticket, (op, committed, posted, outcome)) in (1..4u64).zip(ENDS.iter()) {
-        let events = [
-            submit(rt, 0, ticket, &[*op]),
-            Event::Take,
-            Event::Commit,
-            Event::Post,
-            Event::Look { session: 0, at: 9 },
+        let ops = [*op];
+        let steps = [
+            (Step::Submit(0, ticket, &ops), Reply::Submitted { ticket }),
+            (Step::Take, Reply::Taken { session: 0, ticket }),
+            (Step::Commit, *committed),
+            (Step::Post, *posted),
+            (Step::Look(0, 9), Reply::Looked(*outcome)),
         ];
-        let replies = [
-            Reply::Submitted { ticket },
-            Reply::Taken { session: 0, ticket },
-            *committed,
-            *posted,
-            Reply::Looked(*outcome),
-        ];
-        for (event, want) in events.chunks(1).zip(replies) {
-            same(rt, answer(rt, alloc, &mut world, event), want, "a reply");
+        for (step, want) in &steps {
+            let reply = answer(rt, &mut world, &events_of(rt, &[*step]));
+            same(rt, reply, *want, "a reply");
         }
     }
-    let again = answer(rt, alloc, &mut world, &[Event::Commit]);
+    let again = answer(rt, &mut world, &[Event::Commit]);
     same(rt, again, Reply::NotCommitted(DeskRefused::Worn), "again");
+    is_worn(rt, world);
+}
+
+// What is stored in the end.
+fn is_worn(rt: &impl Abort, world: World<MemDisk>) {
     let (stored, desk) = world.into_parts();
     let store = desk.store();
-    same(
-        rt,
-        (store.count(), store.resume(0)),
-        (WORN_LIMIT, 1),
-        "the store",
-    );
-    same(rt, stored.postings.len(), 2, "postings");
+    let found = (store.count(), store.resume(0), stored.postings.len());
+    same(rt, found, (WORN_LIMIT, 1, 2), "the store");
 }

@@ -83,8 +83,7 @@ impl Drawer {
     fn submit(&mut self, rt: &impl Abort) -> Event {
         let session = self.session();
         let ops = [self.op(), self.op()];
-        let few = if self.below(3) == 0 { 2 } else { 1 };
-        let change = if few == 2 {
+        let change = if self.below(3) == 0 {
             Change::new(&ops)
         } else {
             Change::new(&[self.op()])
@@ -92,22 +91,22 @@ impl Drawer {
         Event::Submit {
             session,
             ticket: self.ticket(session),
-            change: change.expect(rt, "a change"),
+            change: got(rt, change),
         }
     }
 
-    fn words(&mut self, alloc: Global) -> Result<Vec<u64>, AllocError> {
-        let mut words = Vec::new(alloc);
+    fn words(&mut self, rt: &impl Host) -> Vec<u64> {
+        let mut words = Vec::new(rt.alloc());
         for _ in 0..self.below(6) {
             let word = self.rng.next_u64();
-            words.push(if word % 3 == 0 { 0 } else { word })?;
+            got(rt, words.push(if word % 3 == 0 { 0 } else { word }));
         }
-        Ok(words)
+        words
     }
 
-    pub(super) fn event(&mut self, rt: &impl Abort, alloc: Global) -> Result<Event, AllocError> {
+    pub(super) fn event(&mut self, rt: &impl Host) -> Event {
         let at = self.below(300) as usize;
-        Ok(match self.below(24) {
+        match self.below(24) {
             0..=4 => self.submit(rt),
             5..=7 => Event::Look {
                 session: self.session(),
@@ -117,7 +116,7 @@ impl Drawer {
             11 | 12 => Event::Commit,
             13 | 14 => Event::Post,
             15 => Event::Rebuild {
-                words: self.words(alloc)?,
+                words: self.words(rt),
             },
             16 | 17 => {
                 self.launches = self.launches.saturating_add(1);
@@ -126,55 +125,47 @@ impl Drawer {
             }
             _ => {
                 let about = self.launches / 2 + 5;
-                let back = self.below(12);
-                Event::Hop {
-                    packet: about.saturating_sub(back) as usize,
-                    at,
-                }
+                let packet = about.saturating_sub(self.below(12)) as usize;
+                Event::Hop { packet, at }
             }
-        })
+        }
+    }
+
+    // So many events.
+    pub(super) fn events(&mut self, rt: &impl Host, number: u16) -> Vec<Event> {
+        let mut events = Vec::new(rt.alloc());
+        for _ in 0..number {
+            got(rt, events.push(self.event(rt)));
+        }
+        events
     }
 }
 
 // The place of a reply in the tally.
 fn kind(reply: Reply) -> usize {
     match reply {
-        Reply::Submitted { ticket: _ } => 0,
+        Reply::Submitted { .. } => 0,
         Reply::NotSubmitted(SubmitRefused::Busy) => 1,
         Reply::NotSubmitted(SubmitRefused::AlreadyIn) => 2,
         Reply::NotSubmitted(SubmitRefused::OldTicket) => 3,
         Reply::NotSubmitted(SubmitRefused::Worn) => 4,
         Reply::NotSubmitted(SubmitRefused::QueueFull) => 5,
-        Reply::Looked(
-            Outcome::Accepted {
-                ticket: _,
-                count: _,
-            },
-        ) => 6,
-        Reply::Looked(
-            Outcome::Refused {
-                ticket: _,
-                op: _,
-                code: _,
-            },
-        ) => 7,
+        Reply::Looked(Outcome::Accepted { .. }) => 6,
+        Reply::Looked(Outcome::Refused { .. }) => 7,
         Reply::Looked(Outcome::Down) => 8,
         Reply::Looked(Outcome::Waiting) => 9,
         Reply::Looked(Outcome::Nothing) => 10,
-        Reply::Taken {
-            session: _,
-            ticket: _,
-        } => 11,
-        Reply::Committed { accepted: _ } => 12,
+        Reply::Taken { .. } => 11,
+        Reply::Committed { .. } => 12,
         Reply::NotCommitted(_) => 13,
         Reply::Posted => 14,
-        Reply::Rebuilt { generation: _ } => 15,
+        Reply::Rebuilt { .. } => 15,
         Reply::NotRebuilt => 16,
-        Reply::Launched { packet: _ } => 17,
+        Reply::Launched { .. } => 17,
         Reply::NotRouted(RouteRefused::GenerationGone) => 18,
         Reply::NotRouted(RouteRefused::Unreachable) => 19,
         Reply::NotRouted(RouteRefused::NoNode) => 20,
-        Reply::Forwarded { port: _, next: _ } => 21,
+        Reply::Forwarded { .. } => 21,
         Reply::Delivered => 22,
         Reply::Idle => 23,
         Reply::NoActor => 24,
@@ -182,44 +173,35 @@ fn kind(reply: Reply) -> usize {
     }
 }
 
-// A thousand events.
-fn thousand(rt: &impl Abort, alloc: Global, drawer: Drawer) -> Result<Vec<Event>, AllocError> {
-    let mut drawer = drawer;
-    let mut events = Vec::new(alloc);
-    for _ in 0..1000u16 {
-        events.push(drawer.event(rt, alloc)?)?;
-    }
-    Ok(events)
-}
+// How often each kind of reply came up.
+type Tally = [u64; 26];
 
 // Each reply is as the slow machine says.
 fn judged(
-    rt: &impl Abort,
-    alloc: Global,
+    rt: &impl Host,
     slow: &mut SlowMachine,
     events: &[Event],
     replies: &[Reply],
-    tally: &mut [u64; 26],
+    tally: &mut Tally,
     list: u64,
-) -> Result<(), AllocError> {
-    assert!(rt; replies.len() == events.len());
+) {
+    same(rt, replies.len(), events.len(), "replies");
     for (place, (event, reply)) in events.iter().zip(replies.iter()).enumerate() {
-        let good = slow.judges(alloc, event, *reply)?;
-        assert!(rt; good, "list {list}, event {place}");
+        let good = slow.judges(rt, event, *reply);
+        same(rt, (list, place, good), (list, place, true), "an event");
         if let Some(times) = tally.get_mut(kind(*reply)) {
             *times = times.saturating_add(1);
         }
     }
-    Ok(())
 }
 
 // What is stored in the end is as the slow machine has it.
-fn end_alike(rt: &impl Abort, world: World<MemDisk>, slow: &SlowMachine, list: u64) {
+fn end_alike(rt: &impl Abort, world: World<MemDisk>, slow: &SlowMachine) {
     let (stored, desk) = world.into_parts();
     let (store, state) = (desk.store(), &slow.state);
-    assert!(rt; stored.postings.len() == slow.news.len(), "list {list}");
-    assert!(rt; store.count() == state.count, "list {list}");
-    assert!(rt; state.graph.is(store.graph()), "list {list}");
+    same(rt, stored.postings.len(), slow.news.len(), "postings");
+    same(rt, store.count(), state.count, "the count");
+    same(rt, state.graph.is(store.graph()), true, "the graph");
 }
 
 // Of each fourth list a call of the device fails.
@@ -231,37 +213,32 @@ fn plan_of(rng: &mut Xoshiro256PlusPlus, list: u64) -> Plan {
     }
 }
 
-// Draws a list of events, and runs it in a world and by the slow machine.
-fn one_list(
-    rt: &impl Abort,
-    alloc: Global,
-    rng: &mut Xoshiro256PlusPlus,
-    tally: &mut [u64; 26],
-    list: u64,
-) -> Result<(), AllocError> {
+// Draws a list of a thousand events, and runs it in a world and by the slow machine.
+fn one_list(rt: &impl Host, rng: &mut Xoshiro256PlusPlus, tally: &mut Tally, list: u64) {
     let nodes = (1 + rng.next_u64() % 5) as u16;
     let sessions = (1 + rng.next_u64() % 3) as u16;
     let capacity = (1 + rng.next_u64() % 3) as usize;
     let plan = plan_of(rng, list);
-    let events = thousand(rt, alloc, Drawer::new(rng.next_u64(), nodes, sessions))?;
-    let state = State::first(alloc, nodes);
-    let mut slow = SlowMachine::new(alloc, state, sessions as usize, capacity, plan)?;
-    let mut world = fresh(rt, alloc, nodes, sessions as usize, capacity, plan);
-    let replies = world.run(alloc, events.as_slice())?;
-    judged(rt, alloc, &mut slow, &events, &replies, tally, list)?;
-    end_alike(rt, world, &slow, list);
-    Ok(())
+    let mut drawer = Drawer::new(rng.next_u64(), nodes, sessions);
+    let events = drawer.events(rt, 1000);
+    let sessions = sessions as usize;
+    let mut slow = SlowMachine::new(rt, State::first(rt, nodes), sessions, capacity, plan);
+    let mut world = world_of(rt, nodes, 0, sessions, capacity);
+    world.arm(plan);
+    let replies = got(rt, world.run(rt.alloc(), events.as_slice()));
+    judged(rt, &mut slow, &events, &replies, tally, list);
+    end_alike(rt, world, &slow);
 }
 
 #[test]
-fn as_the_slow_machine_says(rt: HostRuntime) -> Result<(), Fail> {
+fn as_the_slow_machine_says(rt: HostRuntime) {
+    let rt = &rt;
     let mut rng = Xoshiro256PlusPlus::seed_from_u64(27);
-    let mut tally = [0u64; 26];
+    let mut tally = [0; 26];
     for list in 0..8u64 {
-        one_list(&rt, rt.alloc(), &mut rng, &mut tally, list)?;
+        one_list(rt, &mut rng, &mut tally, list);
     }
     for (kind, times) in tally.iter().enumerate() {
-        assert!(&rt; (*times > 0) == (kind < 25), "{kind}: {times}");
+        same(rt, (kind, *times > 0), (kind, kind < 25), "each comes up");
     }
-    Ok(())
 }

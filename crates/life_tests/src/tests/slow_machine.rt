@@ -12,23 +12,35 @@ pub(super) struct State {
 
 impl State {
     // That of a new device.
-    pub(super) fn first(alloc: Global, nodes: u16) -> State {
+    pub(super) fn first(rt: &impl Host, nodes: u16) -> State {
         State {
             graph: PlainGraph {
                 nodes,
-                edges: Vec::new(alloc),
+                edges: Vec::new(rt.alloc()),
             },
             count: 0,
             tickets: [0; 64],
         }
     }
 
-    pub(super) fn copy(&self, alloc: Global) -> Result<State, AllocError> {
-        Ok(State {
-            graph: self.graph.copy(alloc)?,
+    pub(super) fn copy(&self, rt: &impl Host) -> State {
+        State {
+            graph: self.graph.copy(rt),
             count: self.count,
             tickets: self.tickets,
-        })
+        }
+    }
+
+    // Takes a request in, where its ops may be made.
+    fn judge(&mut self, rt: &impl Host, asked: &Asked) -> Verdict {
+        if let Some((op, code)) = self.graph.make_all(rt, asked.ops.as_slice()) {
+            return Verdict::Refused { op, code };
+        }
+        self.count = self.count.saturating_add(1);
+        if let Some(last) = self.tickets.get_mut(asked.session as usize) {
+            *last = asked.ticket;
+        }
+        Verdict::Accepted { count: self.count }
     }
 }
 
@@ -56,11 +68,29 @@ pub(super) enum News {
 }
 
 // What a session sees.
-#[derive(Clone, Copy, Drop)]
+#[derive(Drop)]
 struct View {
     last: Option<Mark>,
     accepted: u64,
     down: bool,
+}
+
+impl View {
+    // The session is told of these marks.
+    fn hears(&mut self, session: u8, marks: &[Mark]) {
+        for mark in marks {
+            if mark.session == session {
+                self.last = Some(*mark);
+                if is_accepted(mark) {
+                    self.accepted = mark.ticket;
+                }
+            }
+        }
+    }
+}
+
+fn is_accepted(mark: &Mark) -> bool {
+    matches!(mark.verdict, Verdict::Accepted { .. })
 }
 
 // All that is held, in plain lists. Nothing is ever taken out of one.
@@ -93,74 +123,62 @@ pub(super) struct SlowMachine {
 impl SlowMachine {
     // A machine over this state, of whose device a call may fail or stop.
     pub(super) fn new(
-        alloc: Global,
+        rt: &impl Host,
         state: State,
         sessions: usize,
         capacity: usize,
         plan: Plan,
-    ) -> Result<SlowMachine, AllocError> {
+    ) -> SlowMachine {
         let failing = match plan {
             Plan::None => None,
             Plan::Fail(call) | Plan::Stop(call, _) => Some(call),
         };
-        let mut seats = Vec::new(alloc);
-        for _ in 0..sessions {
-            seats.push(Seat {
-                seen: 0,
-                last: None,
-            })?;
-        }
-        Ok(SlowMachine {
+        let seat = Seat {
+            seen: 0,
+            last: None,
+        };
+        SlowMachine {
             starts: state.tickets,
             state,
             lost: None,
-            accepted: Vec::new(alloc),
+            accepted: Vec::new(rt.alloc()),
             capacity,
             failing,
             calls: 0,
             down: false,
-            seats,
-            asked: Vec::new(alloc),
+            seats: got(rt, vec![in rt.alloc(); seat; sessions]),
+            asked: Vec::new(rt.alloc()),
             taken: 0,
             done: 0,
-            news: Vec::new(alloc),
+            news: Vec::new(rt.alloc()),
             due: None,
             seen: 0,
-            packets: Vec::new(alloc),
-        })
+            packets: Vec::new(rt.alloc()),
+        }
     }
 
     // Whether the event may be answered so. It goes on as if it was.
-    pub(super) fn judges(
-        &mut self,
-        alloc: Global,
-        event: &Event,
-        reply: Reply,
-    ) -> Result<bool, AllocError> {
-        match event {
+    pub(super) fn judges(&mut self, rt: &impl Host, event: &Event, reply: Reply) -> bool {
+        let want = match event {
             Event::Submit {
                 session,
                 ticket,
                 change,
-            } => Ok(reply == self.submit(alloc, *session, *ticket, change)?),
-            Event::Look { session, at } => Ok(reply == self.look(*session, *at)),
-            Event::Take => Ok(reply == self.take()),
-            Event::Commit => Ok(reply == self.commit(alloc)?),
-            Event::Post => Ok(reply == self.post()?),
-            Event::Rebuild { words: _ } => Ok(reply == self.rebuild(alloc)?),
-            Event::Launch { from, to, at } => { Ok(reply == self.launch(alloc, *from, *to, *at)?) }
-            Event::Hop { packet, at } => self.hop(alloc, *packet, *at, reply),
-        }
+            } => self.submit(rt, *session, *ticket, change),
+            Event::Look { session, at } => self.look(*session, *at),
+            Event::Take => self.take(),
+            Event::Commit => self.commit(rt),
+            Event::Post => self.post(rt),
+            Event::Rebuild { words: _ } => self.rebuild(rt),
+            Event::Launch { from, to, at } => self.launch(rt, *from, *to, *at),
+            Event::Hop { packet, at } => return self.hop(rt, *packet, *at, reply),
+        };
+        reply == want
     }
 
     // How many of the news one has seen that had seen some and now looks at so many.
     pub(super) fn further(&self, seen: usize, at: usize) -> usize {
-        let there = if at < self.news.len() {
-            at
-        } else {
-            self.news.len()
-        };
-        if there < seen { seen } else { there }
+        at.min(self.news.len()).max(seen)
     }
 
     // What a session sees in the first of the news.
@@ -170,61 +188,45 @@ impl SlowMachine {
             accepted: self.starts.get(session as usize).copied().unwrap_or(0),
             down: false,
         };
-        for (place, news) in self.news.iter().enumerate() {
-            if place < seen {
-                match news {
-                    News::Marks(marks) => {
-                        for mark in marks {
-                            if mark.session == session {
-                                view.last = Some(*mark);
-                                if let Verdict::Accepted { count: _ } = mark.verdict {
-                                    view.accepted = mark.ticket;
-                                }
-                            }
-                        }
-                    }
-                    News::Down => view.down = true,
-                    News::Generation(_, _) => {}
-                }
+        for news in self.news.iter().take(seen) {
+            match news {
+                News::Marks(marks) => view.hears(session, marks),
+                News::Down => view.down = true,
+                News::Generation(_, _) => {}
             }
         }
         view
     }
 
-    fn submit(
-        &mut self,
-        alloc: Global,
-        session: u8,
-        ticket: u64,
-        change: &Change,
-    ) -> Result<Reply, AllocError> {
+    fn submit(&mut self, rt: &impl Host, session: u8, ticket: u64, change: &Change) -> Reply {
         let Some(seat) = self.seats.get(session as usize).copied() else {
-            return Ok(Reply::NoActor);
+            return Reply::NoActor;
         };
         let view = self.view(session, seat.seen);
-        let refused = match outcome(view, seat.last) {
-            Outcome::Waiting | Outcome::Down => Some(SubmitRefused::Busy),
-            _ if ticket <= view.accepted => Some(SubmitRefused::AlreadyIn),
-            _ if ticket <= seat.last.unwrap_or(0) => Some(SubmitRefused::OldTicket),
-            _ if ticket > 9_223_372_036_854_775_807 => Some(SubmitRefused::Worn),
-            _ if self.asked.len().saturating_sub(self.taken) >= self.capacity => {
-                Some(SubmitRefused::QueueFull)
-            }
-            _ => None,
+        let waiting = self.asked.len().saturating_sub(self.taken);
+        let refused = match outcome(&view, seat.last) {
+            Outcome::Waiting | Outcome::Down => SubmitRefused::Busy,
+            _ if ticket <= view.accepted => SubmitRefused::AlreadyIn,
+            _ if ticket <= seat.last.unwrap_or(0) => SubmitRefused::OldTicket,
+            _ if ticket > 9_223_372_036_854_775_807 => SubmitRefused::Worn,
+            _ if waiting >= self.capacity => SubmitRefused::QueueFull,
+            _ => return self.let_in(rt, session, ticket, change.ops()),
         };
-        if let Some(refused) = refused {
-            return Ok(Reply::NotSubmitted(refused));
-        }
-        let ops = Vec::from_slice(alloc, change.ops())?;
-        self.asked.push(Asked {
+        Reply::NotSubmitted(refused)
+    }
+
+    // A request goes into the queue.
+    fn let_in(&mut self, rt: &impl Host, session: u8, ticket: u64, ops: &[Op]) -> Reply {
+        let asked = Asked {
             session,
             ticket,
-            ops,
-        })?;
+            ops: got(rt, Vec::from_slice(rt.alloc(), ops)),
+        };
+        got(rt, self.asked.push(asked));
         if let Some(there) = self.seats.get_mut(session as usize) {
             there.last = Some(ticket);
         }
-        Ok(Reply::Submitted { ticket })
+        Reply::Submitted { ticket }
     }
 
     fn look(&mut self, session: u8, at: usize) -> Reply {
@@ -235,7 +237,7 @@ impl SlowMachine {
         if let Some(there) = self.seats.get_mut(session as usize) {
             there.seen = seen;
         }
-        Reply::Looked(outcome(self.view(session, seen), seat.last))
+        Reply::Looked(outcome(&self.view(session, seen), seat.last))
     }
 
     fn take(&mut self) -> Reply {
@@ -252,49 +254,44 @@ impl SlowMachine {
         }
     }
 
-    fn commit(&mut self, alloc: Global) -> Result<Reply, AllocError> {
+    fn commit(&mut self, rt: &impl Host) -> Reply {
         if self.done >= self.taken {
-            return Ok(Reply::Idle);
+            return Reply::Idle;
         }
         if self.down {
-            return Ok(Reply::NotCommitted(DeskRefused::Down));
+            return Reply::NotCommitted(DeskRefused::Down);
         }
-        let mut next = self.state.copy(alloc)?;
-        let mut marks = Vec::new(alloc);
-        let mut accepted = 0usize;
-        for place in self.done..self.taken {
-            if let Some(asked) = self.asked.get(place) {
-                let (session, ticket) = (asked.session, asked.ticket);
-                let verdict = match next.graph.make_all(alloc, asked.ops.as_slice())? {
-                    Some((op, code)) => Verdict::Refused { op, code },
-                    None => {
-                        next.count = next.count.saturating_add(1);
-                        if let Some(last) = next.tickets.get_mut(session as usize) {
-                            *last = ticket;
-                        }
-                        self.accepted.push((session, ticket))?;
-                        accepted = accepted.saturating_add(1);
-                        let count = next.count;
-                        Verdict::Accepted { count }
-                    }
-                };
-                marks.push(Mark {
-                    session,
-                    ticket,
-                    verdict,
-                })?;
-            }
-        }
+        let before = self.accepted.len();
+        let (next, marks) = self.judged(rt);
+        let accepted = self.accepted.len().saturating_sub(before);
         if accepted > 0 && self.writes() {
             self.down = true;
             self.lost = Some(next);
             self.due = Some(News::Down);
-            return Ok(Reply::NotCommitted(DeskRefused::Device));
+            return Reply::NotCommitted(DeskRefused::Device);
         }
         self.state = next;
         self.done = self.taken;
         self.due = Some(News::Marks(marks));
-        Ok(Reply::Committed { accepted })
+        Reply::Committed { accepted }
+    }
+
+    // What the store has behind the group that is taken, and the group's marks. Those that are accepted are noted.
+    fn judged(&mut self, rt: &impl Host) -> (State, Vec<Mark>) {
+        let mut next = self.state.copy(rt);
+        let mut marks = Vec::new(rt.alloc());
+        for asked in self.asked.iter().take(self.taken).skip(self.done) {
+            let mark = Mark {
+                session: asked.session,
+                ticket: asked.ticket,
+                verdict: next.judge(rt, asked),
+            };
+            if is_accepted(&mark) {
+                got(rt, self.accepted.push((mark.session, mark.ticket)));
+            }
+            got(rt, marks.push(mark));
+        }
+        (next, marks)
     }
 
     // The four calls of a commit. Whether one of them fails.
@@ -307,21 +304,21 @@ impl SlowMachine {
         }
     }
 
-    fn post(&mut self) -> Result<Reply, AllocError> {
+    fn post(&mut self, rt: &impl Host) -> Reply {
         match self.due.take() {
             Some(news) => {
-                self.news.push(news)?;
-                Ok(Reply::Posted)
+                got(rt, self.news.push(news));
+                Reply::Posted
             }
-            None => Ok(Reply::Idle),
+            None => Reply::Idle,
         }
     }
 
-    pub(super) fn rebuild(&mut self, alloc: Global) -> Result<Reply, AllocError> {
+    pub(super) fn rebuild(&mut self, rt: &impl Host) -> Reply {
         if self.down {
-            return Ok(Reply::NotRebuilt);
+            return Reply::NotRebuilt;
         }
-        self.post()?;
+        self.post(rt);
         let mut newest = None;
         for news in &self.news {
             if let News::Generation(number, _) = news {
@@ -330,30 +327,30 @@ impl SlowMachine {
         }
         let generation = self.state.count;
         if newest != Some(generation) {
-            let graph = self.state.graph.copy(alloc)?;
-            self.news.push(News::Generation(generation, graph))?;
+            let graph = self.state.graph.copy(rt);
+            got(rt, self.news.push(News::Generation(generation, graph)));
         }
-        Ok(Reply::Rebuilt { generation })
+        Reply::Rebuilt { generation }
     }
 
     // The changes that were told as accepted.
-    pub(super) fn acknowledged(&self, alloc: Global) -> Result<Vec<(u8, u64)>, AllocError> {
-        let mut all = Vec::new(alloc);
+    pub(super) fn acknowledged(&self, rt: &impl Host) -> Vec<(u8, u64)> {
+        let mut all = Vec::new(rt.alloc());
         for news in &self.news {
             if let News::Marks(marks) = news {
                 for mark in marks {
-                    if let Verdict::Accepted { count: _ } = mark.verdict {
-                        all.push((mark.session, mark.ticket))?;
+                    if is_accepted(mark) {
+                        got(rt, all.push((mark.session, mark.ticket)));
                     }
                 }
             }
         }
-        Ok(all)
+        all
     }
 }
 
 // What became of a session's last ticket.
-fn outcome(view: View, last: Option<u64>) -> Outcome {
+fn outcome(view: &View, last: Option<u64>) -> Outcome {
     let Some(ticket) = last else {
         return Outcome::Nothing;
     };

@@ -13,58 +13,60 @@ pub(super) struct Packet {
     there: bool,
 }
 
-impl SlowMachine {
-    // The number and the graph of the newest generation among the first of the news.
-    fn newest(&self, seen: usize) -> Option<(u64, &PlainGraph)> {
-        let mut newest = None;
-        for (place, news) in self.news.iter().enumerate() {
-            if let News::Generation(number, graph) = news {
-                if place < seen {
-                    newest = Some((*number, graph));
-                }
-            }
+impl Packet {
+    // Whether a hop may be answered so: a packet at its destination is delivered; any other one goes to a neighbour in the graph of
+    // its own generation, by that neighbour's port, on a walk with at most as many edges as there are other nodes, and at
+    // most three times as long as the shortest. It goes on as if it was.
+    fn goes(&mut self, rt: &impl Host, graph: &PlainGraph, reply: Reply) -> bool {
+        if self.at == self.to {
+            self.there = false;
+            return reply == Reply::Delivered;
         }
-        newest
+        let Reply::Forwarded { port, next } = reply else {
+            return false;
+        };
+        let Some((neighbour, weight)) = graph.behind(self.at, port) else {
+            return false;
+        };
+        self.at = next;
+        self.walked = self.walked.saturating_add(weight as u64);
+        self.hops = self.hops.saturating_add(1);
+        let shortest = graph.distance(rt, self.from, self.to).unwrap_or(0);
+        neighbour == next && self.hops < graph.nodes && self.walked <= shortest.saturating_mul(3)
     }
+}
 
-    // The graph of a generation, where it is one of the newest four among the first of the news.
-    fn graph_of(&self, generation: u64, seen: usize) -> Option<&PlainGraph> {
-        let mut found = None;
-        let mut later = 0usize;
-        for (place, news) in self.news.iter().enumerate() {
-            if let News::Generation(number, graph) = news {
-                if place < seen {
-                    later = later.saturating_add(1);
-                    if *number == generation {
-                        found = Some(graph);
-                        later = 0;
-                    }
+impl SlowMachine {
+    // Of the news that the forwarder has seen, the generation of this number, the newest one where none is asked for; where it is one of
+    // the newest four.
+    fn shelved(&self, asked: Option<u64>) -> Option<(u64, &PlainGraph)> {
+        let mut later = 0u8;
+        for news in self.news.get(..self.seen)?.iter().rev() {
+            if let News::Generation(number, graph) = news
+                && later < 4
+            {
+                if asked.is_none() || asked == Some(*number) {
+                    return Some((*number, graph));
                 }
+                later += 1;
             }
         }
-        if later < 4 { found } else { None }
+        None
     }
 
     // What a launch is answered.
-    pub(super) fn launch(
-        &mut self,
-        alloc: Global,
-        from: u16,
-        to: u16,
-        at: usize,
-    ) -> Result<Reply, AllocError> {
+    pub(super) fn launch(&mut self, rt: &impl Host, from: u16, to: u16, at: usize) -> Reply {
         self.seen = self.further(self.seen, at);
-        let Some((generation, graph)) = self.newest(self.seen) else {
-            return Ok(Reply::NotRouted(RouteRefused::GenerationGone));
+        let Some((generation, graph)) = self.shelved(None) else {
+            return Reply::NotRouted(RouteRefused::GenerationGone);
         };
         if from >= graph.nodes || to >= graph.nodes {
-            return Ok(Reply::NotRouted(RouteRefused::NoNode));
+            return Reply::NotRouted(RouteRefused::NoNode);
         }
-        if graph.distance(alloc, from, to)?.is_none() {
-            return Ok(Reply::NotRouted(RouteRefused::Unreachable));
+        if graph.distance(rt, from, to).is_none() {
+            return Reply::NotRouted(RouteRefused::Unreachable);
         }
-        let packet = self.packets.len();
-        self.packets.push(Packet {
+        let sent = Packet {
             generation,
             from,
             to,
@@ -72,53 +74,28 @@ impl SlowMachine {
             walked: 0,
             hops: 0,
             there: true,
-        })?;
-        Ok(Reply::Launched { packet })
+        };
+        let packet = self.packets.len();
+        got(rt, self.packets.push(sent));
+        Reply::Launched { packet }
     }
 
-    // Whether a hop may be answered so: a packet at its destination is delivered; any other one goes to a neighbour in the graph of
-    // its own generation, by that neighbour's port, on a walk with at most as many edges as there are other nodes, and at
-    // most three times as long as the shortest.
-    pub(super) fn hop(
-        &mut self,
-        alloc: Global,
-        number: usize,
-        at: usize,
-        reply: Reply,
-    ) -> Result<bool, AllocError> {
+    // Whether a hop of a packet may be answered so.
+    pub(super) fn hop(&mut self, rt: &impl Host, number: usize, at: usize, reply: Reply) -> bool {
         let Some(mut packet) = self.packets.get(number).copied() else {
-            return Ok(reply == Reply::NoActor);
+            return reply == Reply::NoActor;
         };
         if !packet.there {
-            return Ok(reply == Reply::NoActor);
+            return reply == Reply::NoActor;
         }
         self.seen = self.further(self.seen, at);
-        let Some(graph) = self.graph_of(packet.generation, self.seen) else {
-            return Ok(reply == Reply::NotRouted(RouteRefused::GenerationGone));
+        let Some((_, graph)) = self.shelved(Some(packet.generation)) else {
+            return reply == Reply::NotRouted(RouteRefused::GenerationGone);
         };
-        let good = if packet.at == packet.to {
-            packet.there = false;
-            reply == Reply::Delivered
-        } else {
-            match reply {
-                Reply::Forwarded { port, next } => match graph.behind(packet.at, port) {
-                    Some((neighbour, weight)) => {
-                        packet.at = next;
-                        packet.walked = packet.walked.saturating_add(weight as u64);
-                        packet.hops = packet.hops.saturating_add(1);
-                        let shortest = graph.distance(alloc, packet.from, packet.to)?.unwrap_or(0);
-                        neighbour == next
-                            && packet.hops < graph.nodes
-                            && packet.walked <= shortest.saturating_mul(3)
-                    }
-                    None => false,
-                },
-                _ => false,
-            }
-        };
+        let good = packet.goes(rt, graph, reply);
         if let Some(there) = self.packets.get_mut(number) {
             *there = packet;
         }
-        Ok(good)
+        good
     }
 }

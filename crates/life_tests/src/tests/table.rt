@@ -1,25 +1,24 @@
 // The way of one change and of one packet, worked out by hand.
 use super::*;
 
-fn events(rt: &impl Abort, alloc: Global) -> Result<Vec<Event>, AllocError> {
-    let mut events = Vec::new(alloc);
-    events.push(submit(rt, 0, 1, &PATH))?;
-    events.push(submit(rt, 0, 1, &PATH))?;
-    events.push(Event::Take)?;
-    events.push(Event::Commit)?;
-    events.push(Event::Look { session: 0, at: 9 })?;
-    events.push(Event::Post)?;
-    events.push(Event::Look { session: 0, at: 1 })?;
-    events.push(rebuild_at_two(alloc)?)?;
-    for at in [0usize, 2] {
-        let (from, to) = (0, 4);
-        events.push(Event::Launch { from, to, at })?;
-    }
-    for _ in 0..6u16 {
-        events.push(Event::Hop { packet: 0, at: 0 })?;
-    }
-    Ok(events)
-}
+const STEPS: [Step; 16] = [
+    Step::Submit(0, 1, &PATH),
+    Step::Submit(0, 1, &PATH),
+    Step::Take,
+    Step::Commit,
+    Step::Look(0, 9),
+    Step::Post,
+    Step::Look(0, 1),
+    Step::Rebuild,
+    Step::Launch(0, 4, 0),
+    Step::Launch(0, 4, 2),
+    Step::Hop,
+    Step::Hop,
+    Step::Hop,
+    Step::Hop,
+    Step::Hop,
+    Step::Hop,
+];
 
 fn replies() -> [Reply; 16] {
     let (ticket, count) = (1, 1);
@@ -45,44 +44,45 @@ fn replies() -> [Reply; 16] {
 
 // Each event alone. It is made for runs in which one allocation is refused.
 #[test]
-fn answers_one_by_one(rt: HostRuntime) -> Result<(), Fail> {
-    let alloc = rt.alloc();
+fn answers_one_by_one(rt: HostRuntime) {
     let rt = &rt;
-    let events = match events(rt, alloc) {
-        Ok(events) => events,
-        Err(_) => events(rt, alloc)?,
-    };
-    let mut world = fresh(rt, alloc, 5, 1, 1, Plan::None);
+    let events = events_of(rt, &STEPS);
+    let mut world = world_of(rt, 5, 0, 1, 1);
     for (place, (event, want)) in events.chunks(1).zip(replies()).enumerate() {
-        let reply = answer(rt, alloc, &mut world, event);
-        assert!(rt; reply == want, "event {place}");
+        let reply = answer(rt, &mut world, event);
+        same(rt, (place, reply), (place, want), "an event");
     }
+    ends_well(rt, world);
+}
+
+// What is stored in the end.
+fn ends_well(rt: &impl Abort, world: World<MemDisk>) {
     let (stored, desk) = world.into_parts();
     assert!(rt; stored.asked.len() == 1 && stored.postings.len() == 2 && stored.ways.len() == 1);
     let store = desk.store();
     assert!(rt; store.count() == 1 && store.graph().edges() == 4 && store.resume(0) == 1);
-    Ok(())
+}
+
+// Runs the events in two lists: each is answered as it is alone.
+fn run_in_pieces(rt: &impl Host, first: &[Event], second: &[Event]) {
+    let mut world = world_of(rt, 5, 0, 1, 1);
+    let front = got(rt, world.run(rt.alloc(), first));
+    let back = got(rt, world.run(rt.alloc(), second));
+    let found = (front.len(), back.len());
+    same(rt, found, (first.len(), second.len()), "replies");
+    for (reply, want) in front.iter().chain(back.iter()).zip(replies()) {
+        same(rt, (first.len(), *reply), (first.len(), want), "a reply");
+    }
 }
 
 // All at once, and in two lists, cut at every place.
 #[test]
-fn answers_in_pieces(rt: HostRuntime) -> Result<(), Fail> {
-    let alloc = rt.alloc();
-    let events = events(&rt, alloc)?;
-    let want = replies();
-    assert!(rt; events.len() == want.len());
+fn answers_in_pieces(rt: HostRuntime) {
+    let rt = &rt;
+    let events = events_of(rt, &STEPS);
+    same(rt, events.len(), replies().len(), "events");
     for cut in 0..=events.len() {
-        let mut world = fresh(&rt, alloc, 5, 1, 1, Plan::None);
         let (first, second) = events.as_slice().split_at(cut);
-        let front = world.run(alloc, first)?;
-        let back = world.run(alloc, second)?;
-        assert!(rt;
-            front.len() == first.len() && back.len() == second.len(),
-            "cut at {cut}"
-        );
-        for (reply, given) in front.iter().chain(back.iter()).zip(want) {
-            assert!(rt; *reply == given, "cut at {cut}");
-        }
+        run_in_pieces(rt, first, second);
     }
-    Ok(())
 }
