@@ -41,16 +41,9 @@ fn size_by_counts(bytes: &[u8]) -> Option<usize> {
 /// Why bytes are refused that have a table's front but not its digest.
 fn wrong_inside(bytes: &[u8]) -> ReadRefused {
     match size_by_counts(bytes) {
-        None => ReadRefused::CutShort,
-        Some(size) => {
-            if bytes.len() < size {
-                ReadRefused::CutShort
-            } else if size < bytes.len() {
-                ReadRefused::TooLong
-            } else {
-                ReadRefused::Damaged
-            }
-        }
+        Some(size) if size < bytes.len() => ReadRefused::TooLong,
+        Some(size) if size == bytes.len() => ReadRefused::Damaged,
+        _ => ReadRefused::CutShort,
     }
 }
 
@@ -77,38 +70,32 @@ fn expect_refused_changed(rt: &impl Abort, alloc: Global, bytes: &mut [u8], chan
 
 #[test]
 fn refuses_each_byte_changed(rt: HostRuntime) {
-    let alloc = rt.alloc();
-    let rt = &rt;
+    let (rt, alloc) = (&rt, rt.alloc());
     for mut bytes in ring_files(rt, alloc) {
-        expect_refused_changed(rt, alloc, bytes.as_mut_slice(), 1);
-        expect_refused_changed(rt, alloc, bytes.as_mut_slice(), 128);
-        expect_refused_changed(rt, alloc, bytes.as_mut_slice(), 255);
+        for change in [1u8, 128, 255] {
+            expect_refused_changed(rt, alloc, bytes.as_mut_slice(), change);
+        }
         let found = refusal_of(rt, alloc, bytes.as_slice());
         same(rt, found, None, "as it was");
-    }
-}
-
-/// Why so many bytes of a table are refused, where there are more.
-fn wrong_cut(length: usize) -> ReadRefused {
-    if length < 8 {
-        ReadRefused::NoTable
-    } else {
-        ReadRefused::CutShort
     }
 }
 
 /// Cuts a table at each length, and sees why it is refused.
 fn expect_refused_cut(rt: &impl Abort, alloc: Global, bytes: &[u8]) {
     for length in 0..bytes.len() {
-        let want = Some(wrong_cut(length));
-        same(rt, refusal_of(rt, alloc, &bytes[..length]), want, "a cut");
+        let want = if length < 8 {
+            ReadRefused::NoTable
+        } else {
+            ReadRefused::CutShort
+        };
+        let found = refusal_of(rt, alloc, &bytes[..length]);
+        same(rt, found, Some(want), "a cut");
     }
 }
 
 #[test]
 fn refuses_each_length_cut(rt: HostRuntime) {
-    let alloc = rt.alloc();
-    let rt = &rt;
+    let (rt, alloc) = (&rt, rt.alloc());
     for mut bytes in ring_files(rt, alloc) {
         expect_refused_cut(rt, alloc, bytes.as_slice());
         got(rt, bytes.push(0));
@@ -187,21 +174,6 @@ fn read_of_changed(rt: &impl Abort, alloc: Global, bytes: &mut [u8], change: u8)
     read
 }
 
-/// Draws a byte of a table anew: whether it is read.
-fn is_read_drawn(
-    rt: &impl Abort,
-    alloc: Global,
-    rng: &mut Xoshiro256PlusPlus,
-    bytes: &mut [u8],
-) -> bool {
-    if bytes.len() <= 40 {
-        panic!(rt; "no table");
-    }
-    let at = 8 + (rng.next_u64() % (bytes.len() as u64 - 40)) as usize;
-    bytes[at] = (rng.next_u64() % 256) as u8;
-    is_read_mended(rt, alloc, bytes, at)
-}
-
 /// How many of 300 tables with one byte drawn anew are read.
 fn read_of_drawn(
     rt: &impl Abort,
@@ -209,10 +181,14 @@ fn read_of_drawn(
     rng: &mut Xoshiro256PlusPlus,
     bytes: &[u8],
 ) -> u32 {
+    assert!(rt; 40 < bytes.len(), "a table");
     let mut read = 0u32;
     for _ in 0..300u16 {
         let mut other = got(rt, Vec::from_slice(alloc, bytes));
-        if is_read_drawn(rt, alloc, rng, other.as_mut_slice()) {
+        let at = 8 + (rng.next_u64() % (bytes.len() as u64 - 40)) as usize;
+        let byte = got(rt, other.get_mut(at).ok_or("too short"));
+        *byte = (rng.next_u64() % 256) as u8;
+        if is_read_mended(rt, alloc, other.as_mut_slice(), at) {
             read = read.saturating_add(1);
         }
     }
@@ -222,8 +198,7 @@ fn read_of_drawn(
 /// With a digest of their own most changed tables are out of order, and some are other tables.
 #[test]
 fn writes_what_it_reads_of_mended_tables(rt: HostRuntime) {
-    let alloc = rt.alloc();
-    let rt = &rt;
+    let (rt, alloc) = (&rt, rt.alloc());
     let mut rng = Xoshiro256PlusPlus::seed_from_u64(51);
     let (mut changed, mut drawn) = (0u32, 0u32);
     for mut bytes in ring_files(rt, alloc) {

@@ -34,10 +34,7 @@ fn go_on(rt: &impl Abort, way: &mut Way, port: u16, next: u16) {
 
 /// The table of a node.
 fn router<'a>(rt: &impl Abort, tables: &'a [RouterTable], node: u16) -> &'a RouterTable {
-    match tables.get(node as usize) {
-        Some(table) => table,
-        None => panic!(rt; "no router"),
-    }
+    got(rt, tables.get(node as usize).ok_or("no router"))
 }
 
 /// Hands a packet on to the end, each hop by the table of the node where it is.
@@ -152,8 +149,7 @@ fn packets_go_from_table_to_table_as_the_scheme_carries_them(rt: HostRuntime) {
 /// A larger network, with deeper trees and few landmarks.
 #[test]
 fn packets_go_from_table_to_table_in_a_larger_network(rt: HostRuntime) {
-    let alloc = rt.alloc();
-    let rt = &rt;
+    let (rt, alloc) = (&rt, rt.alloc());
     let mut rng = Xoshiro256PlusPlus::seed_from_u64(96);
     let edges = got(rt, drawn_edges(alloc, &mut rng, 60, 9, (1, 10)));
     let at = got(rt, drawn_nodes(alloc, &mut rng, 60, (3, 24)));

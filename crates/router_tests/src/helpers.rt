@@ -27,14 +27,8 @@ const GENERATION: u64 = 7;
 
 /// Why bytes are no table, where they are none: a view says the same.
 pub(crate) fn refusal_of(rt: &impl Abort, alloc: Global, bytes: &[u8]) -> Option<ReadRefused> {
-    let by_table = match RouterTable::read(alloc, bytes) {
-        Ok(_) => None,
-        Err(refused) => Some(refused),
-    };
-    let by_view = match TableView::read(bytes) {
-        Ok(_) => None,
-        Err(refused) => Some(refused),
-    };
+    let by_table = RouterTable::read(alloc, bytes).err();
+    let by_view = TableView::read(bytes).err();
     same(rt, by_view, by_table, "a refusal by view");
     by_table
 }

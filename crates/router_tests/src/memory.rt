@@ -42,8 +42,7 @@ fn is_written_again(rt: &impl Abort, alloc: Global, scheme: &Scheme, node: u16) 
 
 #[test]
 fn makes_writes_and_reads_a_table_after_a_want_of_memory(rt: HostRuntime) {
-    let alloc = rt.alloc();
-    let rt = &rt;
+    let (rt, alloc) = (&rt, rt.alloc());
     let scheme = scheme_at(rt, alloc, 9, &RING, &[2, 6]);
     for node in 0..9u16 {
         assert!(rt; is_written_again(rt, alloc, &scheme, node));

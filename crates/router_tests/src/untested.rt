@@ -4,6 +4,7 @@ use packet_bytes::{ADDRESS_SIZE, PACKET_SIZE, Wire, WireRefused};
 use router_table::RouterTable;
 use schemes::Packet;
 use std::alloc::Global;
+use std::mem;
 use std::process::Abort;
 use table_view::{
     BytesRefused, address_bytes, address_in, figures_in, hop_bytes, hop_in, launch_bytes,
@@ -12,57 +13,37 @@ use table_view::{
 
 /// The bytes of the first table.
 fn first_of<'a>(rt: &impl Abort, files: &'a [Vec<u8>]) -> &'a [u8] {
-    match files.first() {
-        Some(file) => file.as_slice(),
-        None => panic!(rt; "no table"),
-    }
+    got(rt, files.first().ok_or("no table")).as_slice()
 }
 
 /// The packet that the first table sends to the last.
 fn packet_of(rt: &impl Abort, alloc: Global, files: &[Vec<u8>]) -> Packet {
     let first = got(rt, RouterTable::read(alloc, first_of(rt, files)));
-    match files.last() {
-        Some(file) => {
-            let last = got(rt, RouterTable::read(alloc, file.as_slice()));
-            got(rt, first.launch(&last.address()))
-        }
-        None => panic!(rt; "no table"),
-    }
+    let last = got(rt, files.last().ok_or("no table")).as_slice();
+    let last = got(rt, RouterTable::read(alloc, last));
+    got(rt, first.launch(&last.address()))
 }
 
 /// The bytes before a place.
 fn cut_at<'a>(rt: &impl Abort, bytes: &'a [u8], end: usize) -> &'a [u8] {
-    match bytes.get(..end) {
-        Some(cut) => cut,
-        None => panic!(rt; "too short"),
-    }
+    got(rt, bytes.get(..end).ok_or("too short"))
 }
 
 /// Writes a byte at a place. Answers what stood there.
 fn put_at(rt: &impl Abort, bytes: &mut [u8], at: usize, byte: u8) -> u8 {
-    if at < bytes.len() {
-        let was = bytes[at];
-        bytes[at] = byte;
-        was
-    } else {
-        panic!(rt; "too short")
-    }
+    mem::replace(got(rt, bytes.get_mut(at).ok_or("too short")), byte)
 }
 
 /// Every call over bytes cut at every place. Where the entries are cut nothing is answered.
 #[test]
 fn cut_bytes_are_refused(rt: HostRuntime) {
-    let alloc = rt.alloc();
-    let rt = &rt;
+    let (rt, alloc) = (&rt, rt.alloc());
     let files = ring_files(rt, alloc);
     let packet = packet_of(rt, alloc, files.as_slice());
     let bytes = packet.to_bytes();
     for file in files.as_slice() {
         let to = got(rt, RouterTable::read(alloc, file.as_slice())).address();
-        let figures = match figures_in(file.as_slice()) {
-            Some(figures) => figures,
-            None => panic!(rt; "no figures"),
-        };
+        let figures = got(rt, figures_in(file.as_slice()).ok_or("no figures"));
         let entries_end = 66 + 2 * figures.ports as usize + 13 * figures.entries as usize;
         for end in 0..entries_end {
             let cut = cut_at(rt, file.as_slice(), end);
@@ -88,16 +69,12 @@ fn cut_bytes_are_refused(rt: HostRuntime) {
 /// Counts past the bytes, in place of those of the ports, the entries and the members.
 #[test]
 fn counts_past_the_end_are_refused(rt: HostRuntime) {
-    let alloc = rt.alloc();
-    let rt = &rt;
+    let (rt, alloc) = (&rt, rt.alloc());
     let files = ring_files(rt, alloc);
     let packet = packet_of(rt, alloc, files.as_slice());
     for mut file in files {
         let to = got(rt, RouterTable::read(alloc, file.as_slice())).address();
-        let figures = match figures_in(file.as_slice()) {
-            Some(figures) => figures,
-            None => panic!(rt; "no figures"),
-        };
+        let figures = got(rt, figures_in(file.as_slice()).ok_or("no figures"));
         let entries_at = 64 + 2 * figures.ports as usize;
         let members_at = entries_at + 2 + 13 * figures.entries as usize;
         let bytes = file.as_mut_slice();
@@ -117,8 +94,7 @@ fn counts_past_the_end_are_refused(rt: HostRuntime) {
 /// Packets, addresses and places of another length, and packets that are none.
 #[test]
 fn other_packets_and_places_are_refused(rt: HostRuntime) {
-    let alloc = rt.alloc();
-    let rt = &rt;
+    let (rt, alloc) = (&rt, rt.alloc());
     let files = ring_files(rt, alloc);
     let table = first_of(rt, files.as_slice());
     let packet = packet_of(rt, alloc, files.as_slice()).to_bytes();

@@ -156,8 +156,7 @@ fn compare(rt: &impl Abort, alloc: Global, nodes: u16, edges: &[Edge], at: &[u16
 
 #[test]
 fn views_answer_as_tables_do(rt: HostRuntime) {
-    let alloc = rt.alloc();
-    let rt = &rt;
+    let (rt, alloc) = (&rt, rt.alloc());
     let mut rng = Xoshiro256PlusPlus::seed_from_u64(51);
     for _ in 0..4u8 {
         let nodes = 1 + (rng.next_u64() % 8) as u16;
@@ -173,8 +172,7 @@ fn views_answer_as_tables_do(rt: HostRuntime) {
 
 #[test]
 fn views_answer_as_tables_do_in_the_sample_networks(rt: HostRuntime) {
-    let alloc = rt.alloc();
-    let rt = &rt;
+    let (rt, alloc) = (&rt, rt.alloc());
     let none: &[u16] = &[];
     let one: &[u16] = &[2];
     let two: &[u16] = &[0, 2];
@@ -193,8 +191,7 @@ fn views_answer_as_tables_do_in_the_sample_networks(rt: HostRuntime) {
 /// A larger network, with longer lists of entries and members, and deeper trees.
 #[test]
 fn views_answer_as_tables_do_in_a_larger_network(rt: HostRuntime) {
-    let alloc = rt.alloc();
-    let rt = &rt;
+    let (rt, alloc) = (&rt, rt.alloc());
     let mut rng = Xoshiro256PlusPlus::seed_from_u64(97);
     let edges = got(rt, drawn_edges(alloc, &mut rng, 20, 9, (2, 10)));
     let at = got(rt, drawn_nodes(alloc, &mut rng, 20, (3, 24)));

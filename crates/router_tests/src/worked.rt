@@ -46,8 +46,7 @@ fn wrong_by_half(at: usize) -> Option<ReadRefused> {
 
 #[test]
 fn reads_only_what_is_in_order_behind_a_mended_digest(rt: HostRuntime) {
-    let alloc = rt.alloc();
-    let rt = &rt;
+    let (rt, alloc) = (&rt, rt.alloc());
     for at in 0..114usize {
         let mut other = BYTES;
         other[at] ^= 128;

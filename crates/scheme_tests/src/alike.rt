@@ -25,13 +25,10 @@ fn same<T: PartialEq + Drop>(rt: &impl Abort, found: T, want: T, name: &str) {
 fn expect_found(rt: &impl Abort, built: &Scheme, assembled: &Scheme, x: u16) {
     assert!(rt; x < built.parts().nodes && x < assembled.parts().nodes);
     same(rt, assembled.entries(x), built.entries(x), "entries");
-    for other in 0..6u16 {
-        let (found, want) = (assembled.find(x, other), built.find(x, other));
-        same(rt, found, want, "a place");
-        let (found, want) = (assembled.entry(x, other), built.entry(x, other));
-        same(rt, found, want, "an entry");
-        let (found, want) = (assembled.listed(x, other), built.listed(x, other));
-        same(rt, found, want, "a label");
+    for y in 0..6u16 {
+        same(rt, assembled.find(x, y), built.find(x, y), "a place");
+        same(rt, assembled.entry(x, y), built.entry(x, y), "an entry");
+        same(rt, assembled.listed(x, y), built.listed(x, y), "a label");
     }
 }
 
@@ -46,15 +43,13 @@ fn expect_carried(
     v: u16,
 ) {
     let address = got(rt, built.address(v));
-    assert!(rt; got(rt, assembled.address(v)) == address, "an address");
+    same(rt, &got(rt, assembled.address(v)), &address, "an address");
     let packet = got(rt, built.decide(u, &address));
-    assert!(rt;
-        got(rt, assembled.decide(u, &address)) == packet,
-        "a packet"
-    );
+    let found = got(rt, assembled.decide(u, &address));
+    same(rt, &found, &packet, "a packet");
     for x in 0..6u16 {
-        let (found, want) = (assembled.node_step(x, &packet), built.node_step(x, &packet));
-        same(rt, found, want, "a step");
+        let found = assembled.node_step(x, &packet);
+        same(rt, found, built.node_step(x, &packet), "a step");
     }
     let way = got(rt, assembled.carry(alloc, u, &address));
     let want = got(rt, built.carry(alloc, u, &address));

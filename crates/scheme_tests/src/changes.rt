@@ -7,48 +7,12 @@ use rand_xoshiro::Xoshiro256PlusPlus;
 use schemes::{Entry, Listed, Near, Parts};
 use std::alloc::{AllocError, Global};
 
-/// The part that is changed.
-#[derive(Clone, Copy, PartialEq, Eq, Debug)]
-pub(crate) enum Part {
-    Distance,
-    Parent,
-    RecordField,
-    Port,
-    LandmarkFlag,
-    NearestLandmark,
-    ListedLabel,
-    HomeLabel,
-    EntryOut,
-    EntryTwice,
-    ListedOut,
-    ListedTwice,
-}
-
-/// All kinds of parts.
-pub(crate) const PARTS: [Part; 12] = [
-    Part::Distance,
-    Part::Parent,
-    Part::RecordField,
-    Part::Port,
-    Part::LandmarkFlag,
-    Part::NearestLandmark,
-    Part::ListedLabel,
-    Part::HomeLabel,
-    Part::EntryOut,
-    Part::EntryTwice,
-    Part::ListedOut,
-    Part::ListedTwice,
-];
-
 /// Equal tables.
 pub(crate) fn copied(alloc: Global, parts: &Parts) -> Result<Parts, AllocError> {
     let mut directories = Vec::new(alloc);
     for directory in &parts.directories {
-        let mut copy = Vec::new(alloc);
-        for listed in directory {
-            copy.push(copied_listed(listed))?;
-        }
-        directories.push(copy)?;
+        let copies: Vec<Listed> = directory.iter().map(copied_listed).collect(alloc)?;
+        directories.push(copies)?;
     }
     Ok(Parts {
         nodes: parts.nodes,
@@ -69,23 +33,21 @@ fn copied_listed(listed: &Listed) -> Listed {
     }
 }
 
-/// Changes one drawn part of a kind. Where there is no such part, or the draw is what stood there, nothing changes.
-pub(crate) fn change(
-    rng: &mut Xoshiro256PlusPlus,
-    parts: &mut Parts,
-    part: Part,
-) -> Result<(), AllocError> {
-    match part {
-        Part::Distance | Part::Parent | Part::RecordField => change_entry(rng, parts, part),
-        Part::Port => change_port(rng, parts),
-        Part::LandmarkFlag => change_flag(rng, parts),
-        Part::NearestLandmark => change_nearest(rng, parts),
-        Part::ListedLabel => change_listed(rng, parts),
-        Part::HomeLabel => change_home(rng, parts),
-        Part::EntryOut => take_out(rng, &mut parts.entries),
-        Part::EntryTwice => return double_entry(rng, parts),
-        Part::ListedOut => take_out(rng, &mut parts.directories),
-        Part::ListedTwice => return double_listed(rng, parts),
+/// Changes one drawn part of a drawn kind. Where there is no such part, or the draw is what stood there, nothing changes.
+pub(crate) fn change(rng: &mut Xoshiro256PlusPlus, parts: &mut Parts) -> Result<(), AllocError> {
+    match below(rng, 12) {
+        0 => change_entry(rng, parts, Field::Distance),
+        1 => change_entry(rng, parts, Field::Parent),
+        2 => change_entry(rng, parts, Field::TreeRecord),
+        3 => change_port(rng, parts),
+        4 => change_flag(rng, parts),
+        5 => change_nearest(rng, parts),
+        6 => change_listed(rng, parts),
+        7 => change_home(rng, parts),
+        8 => take_out(rng, &mut parts.entries),
+        9 => return double(rng, &mut parts.entries, |entry| *entry),
+        10 => take_out(rng, &mut parts.directories),
+        _ => return double(rng, &mut parts.directories, copied_listed),
     }
     Ok(())
 }
@@ -106,6 +68,16 @@ fn drawn_place<T>(rng: &mut Xoshiro256PlusPlus, lists: &[Vec<T>]) -> Option<(usi
     None
 }
 
+/// What stands at a drawn place.
+fn drawn_item<'a, T>(
+    rng: &mut Xoshiro256PlusPlus,
+    lists: &'a mut Vec<Vec<T>>,
+) -> Option<&'a mut T> {
+    let (x, at) = drawn_place(rng, lists)?;
+    let list = lists.get_mut(x)?;
+    list.get_mut(at)
+}
+
 /// Takes out what stands at a drawn place.
 fn take_out<T: Drop>(rng: &mut Xoshiro256PlusPlus, lists: &mut Vec<Vec<T>>) {
     if let Some((x, at)) = drawn_place(rng, lists)
@@ -116,23 +88,19 @@ fn take_out<T: Drop>(rng: &mut Xoshiro256PlusPlus, lists: &mut Vec<Vec<T>>) {
     }
 }
 
-fn double_entry(rng: &mut Xoshiro256PlusPlus, parts: &mut Parts) -> Result<(), AllocError> {
-    if let Some((x, at)) = drawn_place(rng, &parts.entries)
-        && let Some(list) = parts.entries.get_mut(x)
+/// Puts a copy of what stands at a drawn place beside it.
+fn double<T: Drop, F: Fn(&T) -> T>(
+    rng: &mut Xoshiro256PlusPlus,
+    lists: &mut Vec<Vec<T>>,
+    copied: F,
+) -> Result<(), AllocError>
+    requires { F.IsAlwaysCallable copied }
+{
+    if let Some((x, at)) = drawn_place(rng, lists)
+        && let Some(list) = lists.get_mut(x)
         && at < list.len()
     {
-        let again = list[at];
-        list.insert(at, again)?;
-    }
-    Ok(())
-}
-
-fn double_listed(rng: &mut Xoshiro256PlusPlus, parts: &mut Parts) -> Result<(), AllocError> {
-    if let Some((u, at)) = drawn_place(rng, &parts.directories)
-        && let Some(list) = parts.directories.get_mut(u)
-        && at < list.len()
-    {
-        let again = copied_listed(&list[at]);
+        let again = copied(&list[at]);
         list.insert(at, again)?;
     }
     Ok(())
@@ -174,29 +142,33 @@ fn some_distance(rng: &mut Xoshiro256PlusPlus, old: u64) -> u64 {
 
 // ---- Entries
 
-fn change_entry(rng: &mut Xoshiro256PlusPlus, parts: &mut Parts, part: Part) {
-    let nodes = parts.nodes;
-    if let Some((x, at)) = drawn_place(rng, &parts.entries)
-        && let Some(list) = parts.entries.get_mut(x)
-        && let Some(entry) = list.get_mut(at)
-    {
-        *entry = changed_entry(rng, *entry, nodes, part);
+/// What of an entry is changed.
+#[derive(Drop)]
+enum Field {
+    Distance,
+    Parent,
+    TreeRecord,
+}
+
+fn change_entry(rng: &mut Xoshiro256PlusPlus, parts: &mut Parts, field: Field) {
+    if let Some(entry) = drawn_item(rng, &mut parts.entries) {
+        *entry = changed_entry(rng, *entry, parts.nodes, field);
     }
 }
 
-fn changed_entry(rng: &mut Xoshiro256PlusPlus, old: Entry, nodes: u16, part: Part) -> Entry {
+fn changed_entry(rng: &mut Xoshiro256PlusPlus, old: Entry, nodes: u16, field: Field) -> Entry {
     let (mut distance, mut parent) = (old.distance(), old.parent());
     let mut tree_record = old.tree_record();
-    match part {
-        Part::Distance => distance = some_distance(rng, distance),
-        Part::Parent => {
+    match field {
+        Field::Distance => distance = some_distance(rng, distance),
+        Field::Parent => {
             parent = if rng.next_u64() % 8 == 0 {
                 None
             } else {
                 Some(some_node(rng, nodes))
             };
         }
-        _ => tree_record = changed_record(rng, tree_record, nodes),
+        Field::TreeRecord => tree_record = changed_record(rng, tree_record, nodes),
     }
     Entry::new(distance, old.root(), parent, tree_record)
 }
@@ -216,31 +188,27 @@ fn changed_record(rng: &mut Xoshiro256PlusPlus, old: Record, nodes: u16) -> Reco
         4 => parent_port = port,
         _ => heavy_port = port,
     }
-    heavy_port = if first == last {
+    let heavy_port = if first == last {
         None
     } else {
         Some(heavy_port.unwrap_or(0))
     };
-    Record::new(
+    let changed = Record::new(
         first,
         last,
         heavy_last,
         light_depth,
         parent_port,
         heavy_port,
-    )
-    .unwrap_or(old)
+    );
+    changed.unwrap_or(old)
 }
 
 // ---- Lists of nodes
 
 fn change_port(rng: &mut Xoshiro256PlusPlus, parts: &mut Parts) {
-    let nodes = parts.nodes;
-    if let Some((x, at)) = drawn_place(rng, &parts.ports)
-        && let Some(list) = parts.ports.get_mut(x)
-        && let Some(port) = list.get_mut(at)
-    {
-        *port = some_node(rng, nodes);
+    if let Some(port) = drawn_item(rng, &mut parts.ports) {
+        *port = some_node(rng, parts.nodes);
     }
 }
 
@@ -252,77 +220,61 @@ fn change_flag(rng: &mut Xoshiro256PlusPlus, parts: &mut Parts) {
 }
 
 fn change_nearest(rng: &mut Xoshiro256PlusPlus, parts: &mut Parts) {
-    let nodes = parts.nodes;
     let at = below(rng, parts.nearest.len());
     if let Some(near) = parts.nearest.get_mut(at) {
-        *near = changed_near(rng, *near, nodes);
+        *near = changed_near(rng, *near, parts.nodes);
     }
 }
 
 fn changed_near(rng: &mut Xoshiro256PlusPlus, old: Option<Near>, nodes: u16) -> Option<Near> {
-    let Some(near) = old else {
+    let Some(mut near) = old else {
         return Some(Near {
             landmark: some_node(rng, nodes),
             distance: some_distance(rng, 3),
         });
     };
     match rng.next_u64() % 5 {
-        0 => None,
-        1..=2 => Some(Near {
-            landmark: some_node(rng, nodes),
-            distance: near.distance,
-        }),
-        _ => Some(Near {
-            landmark: near.landmark,
-            distance: some_distance(rng, near.distance),
-        }),
+        0 => return None,
+        1..=2 => near.landmark = some_node(rng, nodes),
+        _ => near.distance = some_distance(rng, near.distance),
     }
+    Some(near)
 }
 
 // ---- Labels
 
-fn label_of(first: u16, ports: &[u16]) -> Label {
-    let mut lights: ArrayVec<u16, MOST_LIGHTS> = ArrayVec::new();
+/// As many of these ports as fit.
+fn lights_of(ports: &[u16]) -> ArrayVec<u16, MOST_LIGHTS> {
+    let mut lights = ArrayVec::new();
     for port in ports {
         let _full = lights.try_push(*port);
     }
-    Label::new(first, lights)
+    lights
 }
 
 /// A label with another number, another last port, a port less or a port more.
 fn changed_label(rng: &mut Xoshiro256PlusPlus, old: &Label, nodes: u16) -> Label {
-    let mut lights: ArrayVec<u16, MOST_LIGHTS> = ArrayVec::new();
-    for port in old.lights() {
-        let _full = lights.try_push(*port);
+    let mut lights = lights_of(old.lights());
+    let kind = rng.next_u64() % 4;
+    if kind == 0 {
+        return Label::new(some_number(rng, nodes), lights);
     }
-    match rng.next_u64() % 4 {
-        0 => return label_of(some_number(rng, nodes), old.lights()),
-        1 => {
-            let _last = lights.pop();
-            let _full = lights.try_push(number(rng, 4));
-        }
-        2 => {
-            let _last = lights.pop();
-        }
-        _ => {
-            let _full = lights.try_push(number(rng, 4));
-        }
+    if kind < 3 {
+        let _last = lights.pop();
+    }
+    if kind != 2 {
+        let _full = lights.try_push(number(rng, 4));
     }
     Label::new(old.first(), lights)
 }
 
 fn change_listed(rng: &mut Xoshiro256PlusPlus, parts: &mut Parts) {
-    let nodes = parts.nodes;
-    if let Some((u, at)) = drawn_place(rng, &parts.directories)
-        && let Some(list) = parts.directories.get_mut(u)
-        && let Some(listed) = list.get_mut(at)
-    {
-        listed.label = changed_label(rng, &listed.label, nodes);
+    if let Some(listed) = drawn_item(rng, &mut parts.directories) {
+        listed.label = changed_label(rng, &listed.label, parts.nodes);
     }
 }
 
 fn change_home(rng: &mut Xoshiro256PlusPlus, parts: &mut Parts) {
-    let nodes = parts.nodes;
     let at = below(rng, parts.homes.len());
     let Some(home) = parts.homes.get_mut(at) else {
         return;
@@ -332,9 +284,9 @@ fn change_home(rng: &mut Xoshiro256PlusPlus, parts: &mut Parts) {
             if rng.next_u64() % 4 == 0 {
                 None
             } else {
-                Some(changed_label(rng, label, nodes))
+                Some(changed_label(rng, label, parts.nodes))
             }
         }
-        None => Some(label_of(some_number(rng, nodes), &[])),
+        None => Some(Label::new(some_number(rng, parts.nodes), ArrayVec::new())),
     };
 }

@@ -1,11 +1,31 @@
-// The second checker: the eight rules, one after the other, over all lists.
+// The second checker: the eight rules, one after the other, each at all nodes.
 use crate::plain_tree::PlainTree;
-use crate::tables::{directory, do_ascend, entries, entry, home, is_landmark, nearest, ports};
+use crate::tables::{entry, is_landmark, list, nearest};
 use certificate::Fault;
 use heavy_labels::Label;
 use sample_networks::PlainGraph;
-use schemes::{Entry, Near, Parts};
+use schemes::{Entry, Parts};
 use std::alloc::{AllocError, Global};
+
+/// The rules, by what is said where one is broken.
+const RULES: [Fault; 8] = [
+    Fault::Shape,
+    Fault::Edges,
+    Fault::Parents,
+    Fault::Strict,
+    Fault::Nearest,
+    Fault::Records,
+    Fault::Labels,
+    Fault::Directories,
+];
+
+/// Tables for a graph, and the tree of each root as their parents give it.
+#[derive(Drop)]
+struct Judged<'a> {
+    graph: &'a PlainGraph,
+    parts: &'a Parts,
+    trees: Vec<PlainTree>,
+}
 
 /// The first rule that tables break for a graph, none where they keep all.
 pub(crate) fn first_fault(
@@ -13,302 +33,219 @@ pub(crate) fn first_fault(
     graph: &PlainGraph,
     parts: &Parts,
 ) -> Result<Option<Fault>, AllocError> {
-    if !is_shaped(alloc, graph, parts)? {
-        return Ok(Some(Fault::Shape));
-    }
-    if !has_edges(graph, parts) {
-        return Ok(Some(Fault::Edges));
-    }
-    if !has_parents(graph, parts) {
-        return Ok(Some(Fault::Parents));
-    }
-    if !is_strict(graph, parts) {
-        return Ok(Some(Fault::Strict));
-    }
-    if !has_nearest(graph, parts) {
-        return Ok(Some(Fault::Nearest));
-    }
     let mut trees = Vec::new(alloc);
     for root in 0..graph.nodes {
         trees.push(PlainTree::made(alloc, graph, parts, root)?)?;
     }
-    if !has_records(alloc, graph, parts, &trees)? {
-        return Ok(Some(Fault::Records));
-    }
-    if !has_labels(alloc, graph, parts, &trees)? {
-        return Ok(Some(Fault::Labels));
-    }
-    if !has_directories(alloc, graph, parts)? {
-        return Ok(Some(Fault::Directories));
-    }
-    Ok(None)
+    let judged = Judged {
+        graph,
+        parts,
+        trees,
+    };
+    Ok(judged.first_fault())
 }
 
-// ---- Shape
-
-fn is_shaped(alloc: Global, graph: &PlainGraph, parts: &Parts) -> Result<bool, AllocError> {
-    if !has_places(graph, parts) {
-        return Ok(false);
+impl Judged<'_> {
+    fn first_fault(&self) -> Option<Fault> {
+        for rule in RULES {
+            for x in 0..self.graph.nodes {
+                if !self.keeps(rule, x) {
+                    return Some(rule);
+                }
+            }
+        }
+        None
     }
-    for x in 0..graph.nodes {
-        if !is_node_shaped(alloc, graph, parts, x)? {
-            return Ok(false);
+
+    /// Whether a rule is kept at a node.
+    fn keeps(&self, rule: Fault, x: u16) -> bool {
+        match rule {
+            Fault::Shape => self.has_places() && self.is_shaped(x),
+            Fault::Edges => self.has_edges(x),
+            Fault::Parents => self.has_parents(x),
+            Fault::Strict => self.is_strict(x),
+            Fault::Nearest => self.has_nearest(x),
+            Fault::Records => self.has_records(x),
+            Fault::Labels => self.has_labels(x),
+            Fault::Directories => self.has_directory(x),
         }
     }
-    Ok(true)
-}
 
-fn has_places(graph: &PlainGraph, parts: &Parts) -> bool {
-    let n = graph.nodes as usize;
-    parts.nodes == graph.nodes
-        && parts.landmarks.len() == n
-        && parts.ports.len() == n
-        && parts.nearest.len() == n
-        && parts.entries.len() == n
-        && parts.directories.len() == n
-        && parts.homes.len() == n
-}
+    fn entries(&self, x: u16) -> &[Entry] {
+        list(&self.parts.entries, x)
+    }
 
-fn is_node_shaped(
-    alloc: Global,
-    graph: &PlainGraph,
-    parts: &Parts,
-    x: u16,
-) -> Result<bool, AllocError> {
-    let neighbours = graph.neighbours(alloc, x)?;
-    if ports(parts, x) != neighbours.as_slice() {
-        return Ok(false);
+    // ---- Shape
+
+    fn has_places(&self) -> bool {
+        let n = self.graph.nodes as usize;
+        let parts = self.parts;
+        parts.nodes == self.graph.nodes
+            && parts.landmarks.len() == n
+            && parts.ports.len() == n
+            && parts.nearest.len() == n
+            && parts.entries.len() == n
+            && parts.directories.len() == n
+            && parts.homes.len() == n
     }
-    let mut roots = Vec::new(alloc);
-    for entry in entries(parts, x) {
-        roots.push(entry.root())?;
+
+    fn is_shaped(&self, x: u16) -> bool {
+        let entries = self.entries(x);
+        self.has_ports(x)
+            && entries.is_sorted_by(|before, after| before.root() < after.root())
+            && entry(self.parts, x, x).is_some()
+            && entries.iter().all(|here| self.is_entry_shaped(x, here))
     }
-    if !do_ascend(&roots) || entry(parts, x, x).is_none() {
-        return Ok(false);
-    }
-    for entry in entries(parts, x) {
-        if !is_entry_shaped(graph, parts, x, entry) {
-            return Ok(false);
+
+    /// Whether the ports of a node are the ascending list of its neighbours.
+    fn has_ports(&self, x: u16) -> bool {
+        let ports = list(&self.parts.ports, x);
+        let mut count = 0usize;
+        for y in 0..self.graph.nodes {
+            if self.graph.weight(x, y).is_some() {
+                if ports.get(count).copied() != Some(y) {
+                    return false;
+                }
+                count = count.saturating_add(1);
+            }
         }
+        count == ports.len()
     }
-    Ok(true)
-}
 
-fn is_entry_shaped(graph: &PlainGraph, parts: &Parts, x: u16, given: &Entry) -> bool {
-    if given.root() >= graph.nodes {
-        return false;
+    fn is_entry_shaped(&self, x: u16, given: &Entry) -> bool {
+        if given.root() >= self.graph.nodes {
+            return false;
+        }
+        if given.root() == x {
+            return given.distance() == 0 && given.parent().is_none();
+        }
+        given.parent().is_some_and(|y| {
+            self.graph.weight(x, y).is_some() && entry(self.parts, y, given.root()).is_some()
+        })
     }
-    if given.root() == x {
-        return given.distance() == 0 && given.parent().is_none();
-    }
-    match given.parent() {
-        Some(y) => graph.weight(x, y).is_some() && entry(parts, y, given.root()).is_some(),
-        None => false,
-    }
-}
 
-// ---- Edges
+    // ---- Edges
 
-fn has_edges(graph: &PlainGraph, parts: &Parts) -> bool {
-    for x in 0..graph.nodes {
-        for y in 0..graph.nodes {
-            let Some(weight) = graph.weight(x, y) else {
+    fn has_edges(&self, x: u16) -> bool {
+        for y in 0..self.graph.nodes {
+            let Some(weight) = self.graph.weight(x, y) else {
                 continue;
             };
-            for here in entries(parts, x) {
+            for here in self.entries(x) {
                 let most = here.distance() as u128 + weight as u128;
-                if !is_within(parts, here.root(), y, most) {
+                if !self.is_within(here.root(), y, most) {
                     return false;
                 }
             }
         }
+        true
     }
-    true
-}
 
-/// Whether y is within a distance of the root, or of a landmark where y has no entry and the root is no landmark.
-fn is_within(parts: &Parts, root: u16, y: u16, most: u128) -> bool {
-    if let Some(there) = entry(parts, y, root) {
-        return there.distance() as u128 <= most;
+    /// Whether y is within a distance of the root, or of a landmark where y has no entry and the root is no landmark.
+    fn is_within(&self, root: u16, y: u16, most: u128) -> bool {
+        if let Some(there) = entry(self.parts, y, root) {
+            return there.distance() as u128 <= most;
+        }
+        match nearest(self.parts, y) {
+            Some(near) => !is_landmark(self.parts, root) && near.distance as u128 <= most,
+            None => false,
+        }
     }
-    match nearest(parts, y) {
-        Some(near) => !is_landmark(parts, root) && near.distance as u128 <= most,
-        None => false,
+
+    // ---- Parents
+
+    fn has_parents(&self, x: u16) -> bool {
+        let mut entries = self.entries(x).iter();
+        entries.all(|here| here.parent().is_none() || here.parent() == self.first_giver(x, here))
     }
-}
 
-// ---- Parents
-
-fn has_parents(graph: &PlainGraph, parts: &Parts) -> bool {
-    for x in 0..graph.nodes {
-        for here in entries(parts, x) {
-            if let Some(y) = here.parent()
-                && first_giver(graph, parts, x, here) != Some(y)
-            {
-                return false;
+    /// The smallest-numbered neighbour whose distance and edge give the distance of an entry.
+    fn first_giver(&self, x: u16, here: &Entry) -> Option<u16> {
+        for y in 0..self.graph.nodes {
+            let there = entry(self.parts, y, here.root());
+            if let (Some(weight), Some(there)) = (self.graph.weight(x, y), there) {
+                let sum = there.distance() as u128 + weight as u128;
+                if sum == here.distance() as u128 {
+                    return Some(y);
+                }
             }
         }
+        None
     }
-    true
-}
 
-/// The smallest-numbered neighbour whose distance and edge give the distance of an entry.
-fn first_giver(graph: &PlainGraph, parts: &Parts, x: u16, here: &Entry) -> Option<u16> {
-    for y in 0..graph.nodes {
-        if let (Some(weight), Some(there)) = (graph.weight(x, y), entry(parts, y, here.root())) {
-            let sum = there.distance() as u128 + weight as u128;
-            if sum == here.distance() as u128 {
-                return Some(y);
-            }
-        }
-    }
-    None
-}
+    // ---- Strict
 
-// ---- Strict
-
-fn is_strict(graph: &PlainGraph, parts: &Parts) -> bool {
-    for x in 0..graph.nodes {
-        for here in entries(parts, x) {
-            let Some(near) = nearest(parts, x) else {
-                continue;
-            };
-            if !is_landmark(parts, here.root()) && here.distance() >= near.distance {
-                return false;
-            }
-        }
-    }
-    true
-}
-
-// ---- Nearest
-
-fn has_nearest(graph: &PlainGraph, parts: &Parts) -> bool {
-    for x in 0..graph.nodes {
-        if nearest(parts, x) != least(parts, x) {
-            return false;
-        }
-    }
-    true
-}
-
-/// The least of a node's entries for landmarks, of several the one for the smallest landmark.
-fn least(parts: &Parts, x: u16) -> Option<Near> {
-    let mut least: Option<Near> = None;
-    for here in entries(parts, x) {
-        if !is_landmark(parts, here.root()) {
-            continue;
-        }
-        let is_less = match least {
-            Some(near) => {
-                here.distance() < near.distance
-                    || (here.distance() == near.distance && here.root() < near.landmark)
-            }
-            None => true,
+    fn is_strict(&self, x: u16) -> bool {
+        let Some(near) = nearest(self.parts, x) else {
+            return true;
         };
-        if is_less {
-            least = Some(Near {
-                landmark: here.root(),
-                distance: here.distance(),
-            });
+        let mut entries = self.entries(x).iter();
+        entries.all(|here| is_landmark(self.parts, here.root()) || here.distance() < near.distance)
+    }
+
+    // ---- Nearest
+
+    /// Whether the nearest landmark is the least of a node's entries for landmarks, of several the one for the smallest landmark.
+    fn has_nearest(&self, x: u16) -> bool {
+        let mut least: Option<(u64, u16)> = None;
+        for here in self.entries(x) {
+            let found = (here.distance(), here.root());
+            if is_landmark(self.parts, here.root()) && least.is_none_or(|least| found < least) {
+                least = Some(found);
+            }
+        }
+        least == nearest(self.parts, x).map(|near| (near.distance, near.landmark))
+    }
+
+    // ---- Records
+
+    fn has_records(&self, x: u16) -> bool {
+        let mut entries = self.entries(x).iter();
+        entries.all(|here| {
+            let tree = self.trees.get(here.root() as usize);
+            tree.is_some_and(|tree| tree.is_record(self.graph, x, here.tree_record()))
+        })
+    }
+
+    // ---- Labels
+
+    fn has_labels(&self, u: u16) -> bool {
+        let mut directory = list(&self.parts.directories, u).iter();
+        let listed = directory.all(|listed| {
+            entry(self.parts, listed.node, u).is_none()
+                || self.is_label_in(u, listed.node, &listed.label)
+        });
+        match (self.home(u), nearest(self.parts, u)) {
+            (Some(label), Some(near)) => listed && self.is_label_in(near.landmark, u, label),
+            _ => listed,
         }
     }
-    least
-}
 
-// ---- Records
+    fn is_label_in(&self, root: u16, x: u16, label: &Label) -> bool {
+        let tree = self.trees.get(root as usize);
+        tree.is_some_and(|tree| tree.is_label(x, label))
+    }
 
-fn has_records(
-    alloc: Global,
-    graph: &PlainGraph,
-    parts: &Parts,
-    trees: &[PlainTree],
-) -> Result<bool, AllocError> {
-    for (root, tree) in trees.iter().enumerate() {
-        for x in 0..graph.nodes {
-            for here in entries(parts, x) {
-                if here.root() as usize != root {
-                    continue;
+    /// A node's label in the tree of its nearest landmark.
+    fn home(&self, v: u16) -> Option<&Label> {
+        self.parts.homes.get(v as usize)?.as_ref()
+    }
+
+    // ---- Directories
+
+    /// Whether a directory is exactly the ascending list of the nodes with an entry for its root, or empty at a landmark, and there is
+    /// a label for the nearest landmark where there is one.
+    fn has_directory(&self, u: u16) -> bool {
+        let directory = list(&self.parts.directories, u);
+        let mut count = 0usize;
+        for v in 0..self.graph.nodes {
+            if !is_landmark(self.parts, u) && entry(self.parts, v, u).is_some() {
+                if directory.get(count).is_none_or(|listed| listed.node != v) {
+                    return false;
                 }
-                if tree.record_of(alloc, graph, x)? != Some(here.tree_record()) {
-                    return Ok(false);
-                }
+                count = count.saturating_add(1);
             }
         }
+        count == directory.len() && self.home(u).is_some() == nearest(self.parts, u).is_some()
     }
-    Ok(true)
-}
-
-// ---- Labels
-
-fn has_labels(
-    alloc: Global,
-    graph: &PlainGraph,
-    parts: &Parts,
-    trees: &[PlainTree],
-) -> Result<bool, AllocError> {
-    for u in 0..graph.nodes {
-        for listed in directory(parts, u) {
-            if entry(parts, listed.node, u).is_none() {
-                continue;
-            }
-            if !is_label_in(alloc, graph, trees, u, listed.node, &listed.label)? {
-                return Ok(false);
-            }
-        }
-        if let (Some(label), Some(near)) = (home(parts, u), nearest(parts, u))
-            && !is_label_in(alloc, graph, trees, near.landmark, u, label)?
-        {
-            return Ok(false);
-        }
-    }
-    Ok(true)
-}
-
-fn is_label_in(
-    alloc: Global,
-    graph: &PlainGraph,
-    trees: &[PlainTree],
-    root: u16,
-    x: u16,
-    label: &Label,
-) -> Result<bool, AllocError> {
-    match trees.get(root as usize) {
-        Some(tree) => tree.is_label(alloc, graph, x, label),
-        None => Ok(false),
-    }
-}
-
-// ---- Directories
-
-fn has_directories(alloc: Global, graph: &PlainGraph, parts: &Parts) -> Result<bool, AllocError> {
-    for u in 0..graph.nodes {
-        if !is_directory(alloc, graph, parts, u)? {
-            return Ok(false);
-        }
-        if home(parts, u).is_some() != nearest(parts, u).is_some() {
-            return Ok(false);
-        }
-    }
-    Ok(true)
-}
-
-/// Whether a directory is exactly the ascending list of the nodes with an entry for its root, or empty at a landmark.
-fn is_directory(
-    alloc: Global,
-    graph: &PlainGraph,
-    parts: &Parts,
-    u: u16,
-) -> Result<bool, AllocError> {
-    let mut members = Vec::new(alloc);
-    for v in 0..graph.nodes {
-        if !is_landmark(parts, u) && entry(parts, v, u).is_some() {
-            members.push(v)?;
-        }
-    }
-    let mut nodes = Vec::new(alloc);
-    for listed in directory(parts, u) {
-        nodes.push(listed.node)?;
-    }
-    Ok(nodes.as_slice() == members.as_slice())
 }

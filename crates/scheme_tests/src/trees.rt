@@ -24,26 +24,20 @@ impl Known {
 
     /// Whether a landmark is as near to a node as this.
     fn has_landmark_within(&self, x: u16, most: u64) -> bool {
-        for a in 0..self.graph.nodes {
+        (0..self.graph.nodes).any(|a| {
             let near = self.graph.distance(a, x);
-            if self.is_landmark(a) && near.is_some_and(|near| near <= most) {
-                return true;
-            }
-        }
-        false
+            self.is_landmark(a) && near.is_some_and(|near| near <= most)
+        })
     }
 
     /// The smallest neighbour by which a node is as far from a root as it is.
     fn parent(&self, root: u16, x: u16, distance: u64) -> Option<u16> {
-        for y in 0..self.graph.nodes {
-            let (weight, before) = (self.graph.weight(y, x), self.graph.distance(root, y));
-            if let (Some(weight), Some(before)) = (weight, before)
-                && before.saturating_add(weight as u64) == distance
-            {
-                return Some(y);
+        (0..self.graph.nodes).find(|y| {
+            match (self.graph.weight(*y, x), self.graph.distance(root, *y)) {
+                (Some(weight), Some(before)) => before.saturating_add(weight as u64) == distance,
+                _ => false,
             }
-        }
-        None
+        })
     }
 
     /// A node's distance and parent in the tree of a root, none where it isn't in that tree.
@@ -52,12 +46,10 @@ impl Known {
         if !self.is_landmark(root) && self.has_landmark_within(x, distance) {
             return None;
         }
-        let parent = if x == root {
-            None
-        } else {
-            self.parent(root, x, distance)
-        };
-        Some((distance, parent))
+        if x == root {
+            return Some((distance, None));
+        }
+        Some((distance, self.parent(root, x, distance)))
     }
 }
 
@@ -73,14 +65,10 @@ fn trees_of_drawn_graphs(rt: HostRuntime) -> Result<(), Fail> {
         let scheme = scheme_of(alloc, &graph, &known.words, 1, alloc)?;
         for root in 0..known.graph.nodes {
             for x in 0..known.graph.nodes {
-                let place = scheme
-                    .entry(x, root)
-                    .map(|entry| (entry.distance(), entry.parent()));
-                assert_eq!(rt;
-                    place,
-                    known.place(root, x),
-                    "{x} below {root}, graph {turn}"
-                );
+                let entry = scheme.entry(x, root);
+                let place = entry.map(|entry| (entry.distance(), entry.parent()));
+                let want = known.place(root, x);
+                assert_eq!(rt; place, want, "{x} below {root}, graph {turn}");
             }
         }
     }

@@ -5,7 +5,7 @@ use checkpoint::{
 use disk_trait::{CrashDisk, Disk, MemDisk, Plan};
 use graph_edits::{Change, EditRefused, Graph, Op, Overlay};
 use requests::{Request, SESSIONS};
-use std::alloc::{AllocError, Global};
+use std::alloc::{AllocError, AllocGlobal, Global};
 use std::fmt::Debug;
 use std::process::Abort;
 use test_doubles::CRASH_WORDS;
@@ -24,34 +24,26 @@ use helpers::*;
 
 #[test]
 fn refusals_have_their_numbers(rt: HostRuntime) {
-    let rt = &rt;
-    let format = [
-        FormatRefused::BadSize as u8,
-        FormatRefused::BadLength as u8,
-        FormatRefused::Device as u8,
+    let numbers = [
+        (FormatRefused::BadSize as u8, 1),
+        (FormatRefused::BadLength as u8, 2),
+        (FormatRefused::Device as u8, 3),
+        (OpenRefused::NotFormatted as u8, 1),
+        (OpenRefused::BadVersion as u8, 2),
+        (OpenRefused::Damaged as u8, 3),
+        (OpenRefused::Device as u8, 4),
+        (OpenRefused::Memory as u8, 5),
+        (CommitRefused::NeedsRoll as u8, 1),
+        (CommitRefused::Device as u8, 2),
+        (CommitRefused::Memory as u8, 3),
+        (CommitRefused::Down as u8, 4),
+        (CommitRefused::Worn as u8, 5),
+        (RollRefused::Device as u8, 2),
+        (RollRefused::Memory as u8, 3),
+        (RollRefused::Down as u8, 4),
+        (RollRefused::Worn as u8, 5),
     ];
-    same(rt, format, [1, 2, 3], "format");
-    let open = [
-        OpenRefused::NotFormatted as u8,
-        OpenRefused::BadVersion as u8,
-        OpenRefused::Damaged as u8,
-        OpenRefused::Device as u8,
-        OpenRefused::Memory as u8,
-    ];
-    same(rt, open, [1, 2, 3, 4, 5], "open");
-    let commit = [
-        CommitRefused::NeedsRoll as u8,
-        CommitRefused::Device as u8,
-        CommitRefused::Memory as u8,
-        CommitRefused::Down as u8,
-        CommitRefused::Worn as u8,
-    ];
-    same(rt, commit, [1, 2, 3, 4, 5], "commit");
-    let roll = [
-        RollRefused::Device as u8,
-        RollRefused::Memory as u8,
-        RollRefused::Down as u8,
-        RollRefused::Worn as u8,
-    ];
-    same(rt, roll, [2, 3, 4, 5], "roll");
+    for (place, (number, want)) in numbers.iter().enumerate() {
+        same(&rt, (place, *number), (place, *want), "a refusal");
+    }
 }

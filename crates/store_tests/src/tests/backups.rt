@@ -49,24 +49,23 @@ impl NewDevices for FailingDevices {
 
 // Backs a store up to a device whose n-th call fails, and gives the device.
 fn backs_up(
-    rt: &impl Abort,
-    alloc: Global,
+    rt: &impl Host,
     store: &Store<MemDisk>,
     call: u64,
     want: Result<(), BackupRefused>,
 ) -> MemDisk {
     let mut devices = FailingDevices {
-        alloc,
+        alloc: rt.alloc(),
         call,
         left: None,
         done: MakeLog::new(),
     };
-    let mut answer = backed_up(alloc, store, &mut devices, "b");
+    let mut answer = backed_up(rt.alloc(), store, &mut devices, "b");
     // Where memory was refused nothing was written, and it is asked for once more.
     if let Err(BackupRefused::Memory) = answer {
         let left = given_back(rt, &mut devices);
-        is_refused(rt, alloc, left, OpenRefused::NotFormatted, "without memory");
-        answer = backed_up(alloc, store, &mut devices, "b");
+        is_refused(rt, left, OpenRefused::NotFormatted, "without memory");
+        answer = backed_up(rt.alloc(), store, &mut devices, "b");
     }
     same(rt, answer, want, "a backup");
     given_back(rt, &mut devices)
@@ -79,8 +78,8 @@ fn given_back(rt: &impl Abort, devices: &mut FailingDevices) -> MemDisk {
 }
 
 // Sees that this is left of a backup: the whole, where it is to be, or else the whole or no device.
-fn is_left(rt: &impl Abort, alloc: Global, disk: MemDisk, is_whole: bool) {
-    match test_doubles::opened(alloc, disk) {
+fn is_left(rt: &impl Host, disk: MemDisk, is_whole: bool) {
+    match test_doubles::opened(rt.alloc(), disk) {
         Ok(store) => ends_whole(rt, store),
         Err((refused, _disk)) => same(rt, (is_whole, (refused as u8) < 4), (false, true), "none"),
     }
@@ -92,21 +91,19 @@ fn ends_whole(rt: &impl Abort, store: Store<MemDisk>) {
     same(rt, store.resume(0), 1, "the ticket");
 }
 
+const DEVICE: Result<(), BackupRefused> = Err(BackupRefused::Device);
+
 // Each call of the new device fails in turn, and then a crash comes: nothing is left of it, or the whole. Behind ten calls it is whole.
 #[test]
 fn backups_of_which_a_call_fails(rt: HostRuntime) {
-    let alloc = rt.alloc();
     let rt = &rt;
-    let store = opened(rt, alloc, with_edge(rt, alloc));
+    let store = opened(rt, with_edge(rt));
     for call in 1..=11 {
-        let want = if call > 10 {
-            Ok(())
-        } else {
-            Err(BackupRefused::Device)
-        };
+        let is_whole = call > 10;
         for word in &CRASH_WORDS {
-            let left = backs_up(rt, alloc, &store, call, want).crash(*word);
-            is_left(rt, alloc, left, call > 10);
+            let want = if is_whole { Ok(()) } else { DEVICE };
+            let left = backs_up(rt, &store, call, want).crash(*word);
+            is_left(rt, left, is_whole);
         }
     }
 }
@@ -114,22 +111,20 @@ fn backups_of_which_a_call_fails(rt: HostRuntime) {
 // No call of it fails: it has the state, and the store goes on. Run by `./refuse-memory` too, which refuses each allocation in turn.
 #[test]
 fn a_backup_without_memory_is_made_again(rt: HostRuntime) {
-    let alloc = rt.alloc();
     let rt = &rt;
-    let mut store = opened(rt, alloc, with_edge(rt, alloc));
-    let left = backs_up(rt, alloc, &store, 11, Ok(()));
-    commits(rt, alloc, &mut store, &[(0, 2, Op::Set(0, 1, 9))]);
-    is_left(rt, alloc, left.crash(0), true);
+    let mut store = opened(rt, with_edge(rt));
+    let left = backs_up(rt, &store, 11, Ok(()));
+    commits(rt, &mut store, &[(0, 2, &[Op::Set(0, 1, 9)])]);
+    is_left(rt, left.crash(0), true);
     ends(rt, store, (0, 1), (2, 1, Some(9)), "the store");
 }
 
 // Where none can be made, that is told.
 #[test]
 fn backups_where_no_device_can_be_made(rt: HostRuntime) {
-    let alloc = rt.alloc();
     let rt = &rt;
-    let store = opened(rt, alloc, with_edge(rt, alloc));
-    let answer = backed_up(alloc, &store, &mut NoDevices::new(), "b");
+    let store = opened(rt, with_edge(rt));
+    let answer = backed_up(rt.alloc(), &store, &mut NoDevices::new(), "b");
     same(rt, answer, Err(BackupRefused::Unusable), "a backup");
     let texts = [
         (BackupRefused::FileExists, "file exists"),

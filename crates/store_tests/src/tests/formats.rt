@@ -13,8 +13,8 @@ const FRONTS: [(usize, &str); 4] = [
 ];
 
 // A device of bytes a5.
-fn unclean(rt: &impl Abort, alloc: Global) -> MemDisk {
-    let mut disk = blank(rt, alloc, DEVICE_LEN);
+fn unclean(rt: &impl Host) -> MemDisk {
+    let mut disk = blank(rt, DEVICE_LEN);
     for at in (0..DEVICE_LEN).step_by(4096) {
         put(rt, &mut disk, at, &[0xa5; 4096]);
     }
@@ -31,16 +31,15 @@ const RANGES: [(usize, usize); 4] = [
 
 #[test]
 fn formats_one_node(rt: HostRuntime) {
-    let alloc = rt.alloc();
     let rt = &rt;
-    let mut disk = unclean(rt, alloc);
+    let mut disk = unclean(rt);
     let before = digest(rt, &mut disk);
-    formats(rt, &mut disk, 1, Ok(()), "one node");
+    same(rt, format(&mut disk, 1), Ok(()), "one node");
     for (at, text) in &FRONTS {
         shows(rt, &mut disk, *at, text);
     }
     shows_zeros(rt, &mut disk, 4119, 64);
-    let store = opened(rt, alloc, disk);
+    let store = opened(rt, disk);
     same(rt, (store.nodes(), store.is_down()), (1, false), "one node");
     same(rt, store.starts(), [0; 64], "one node");
     has(rt, &store, (0, 0), (0, 0, None), "one node");
@@ -50,7 +49,7 @@ fn formats_one_node(rt: HostRuntime) {
             put(rt, &mut disk, at, &[0xa5]);
         }
     }
-    ends_as(rt, disk, before, "each other byte");
+    same(rt, digest(rt, &mut disk), before, "each other byte");
 }
 
 // The length of a device, so many nodes, and why a format of it is refused.
@@ -64,27 +63,25 @@ const LIMITS: [(usize, u16, FormatRefused); 5] = [
 
 #[test]
 fn refuses_what_is_past_the_limits(rt: HostRuntime) {
-    let alloc = rt.alloc();
     let rt = &rt;
     for (len, nodes, want) in &LIMITS {
-        let mut disk = blank(rt, alloc, *len);
-        formats(rt, &mut disk, *nodes, Err(*want), "limits");
+        let mut disk = blank(rt, *len);
+        same(rt, format(&mut disk, *nodes), Err(*want), "limits");
         shows(rt, &mut disk, 0, "00000000000000000000");
     }
 }
 
 #[test]
 fn each_call_of_a_format_fails(rt: HostRuntime) {
-    let alloc = rt.alloc();
     let rt = &rt;
     // no call is left out, and none is made besides
     for call in 1..7u64 {
-        let mut disk = blank(rt, alloc, DEVICE_LEN);
+        let mut disk = blank(rt, DEVICE_LEN);
         disk.fail_at(call);
         let want = if call < 6 { DEVICE } else { Ok(()) };
-        formats(rt, &mut disk, 5, want, "a call fails");
+        same(rt, format(&mut disk, 5), want, "a call fails");
         if call < 6 {
-            formats(rt, &mut disk, 5, Ok(()), "no plan is left");
+            same(rt, format(&mut disk, 5), Ok(()), "no plan is left");
         }
     }
 }
@@ -92,23 +89,23 @@ fn each_call_of_a_format_fails(rt: HostRuntime) {
 const DEVICE: Result<(), FormatRefused> = Err(FormatRefused::Device);
 
 // Formats a device that is left by a crash, and sees a fresh store of seven nodes, which takes a change.
-fn formats_again(rt: &impl Abort, alloc: Global, disk: MemDisk, name: &str) {
+fn formats_again(rt: &impl Host, disk: MemDisk, name: &str) {
     let mut disk = disk;
-    formats(rt, &mut disk, 7, Ok(()), name);
-    let mut store = opened(rt, alloc, disk);
+    same(rt, format(&mut disk, 7), Ok(()), name);
+    let mut store = opened(rt, disk);
     has(rt, &store, (0, 1), (0, 0, None), name);
     same(rt, (store.nodes(), store.resume(0)), (7, 0), name);
-    commits(rt, alloc, &mut store, &[(0, 1, Op::Add(5, 6, 3))]);
+    commits(rt, &mut store, &[(0, 1, &[Op::Add(5, 6, 3)])]);
     let disk = store.into_disk();
-    opens(rt, alloc, disk, (5, 6), (1, 1, Some(3)), name);
+    opens(rt, disk, (5, 6), (1, 1, Some(3)), name);
 }
 
 // Stops a format inside a call behind so many bytes, and formats again after a crash by the word.
-fn stops(rt: &impl Abort, alloc: Global, call: u64, put: usize, word: u64) {
-    let mut disk = blank(rt, alloc, DEVICE_LEN);
+fn stops(rt: &impl Host, call: u64, put: usize, word: u64) {
+    let mut disk = blank(rt, DEVICE_LEN);
     disk.stop_at(call, put);
-    formats(rt, &mut disk, 5, DEVICE, "stopped");
-    formats_again(rt, alloc, disk.crash(word), "after a stop")
+    same(rt, format(&mut disk, 5), DEVICE, "stopped");
+    formats_again(rt, disk.crash(word), "after a stop")
 }
 
 // The header, the head of the first checkpoint, its tickets, the two gates, and the sync: a call, and behind how many bytes it stops,
@@ -130,43 +127,41 @@ fn a_format_stops_inside_each_write(rt: HostRuntime) {
     for word in &CRASH_WORDS {
         for (call, least, most) in &WRITES {
             for put in *least..=*most {
-                stops(&rt, rt.alloc(), *call, put, *word);
+                stops(&rt, *call, put, *word);
             }
         }
     }
 }
 
 // A device that has rolled, with two records of one size behind each of its checkpoints.
-fn rolled_device(rt: &impl Abort, alloc: Global) -> MemDisk {
-    let mut store = opened(rt, alloc, formatted(rt, alloc, 5));
-    commits(rt, alloc, &mut store, &[(0, 1, Op::Add(0, 1, 1))]);
-    commits(rt, alloc, &mut store, &[(0, 2, Op::Set(0, 1, 2))]);
-    rolls(rt, alloc, &mut store);
-    commits(rt, alloc, &mut store, &[(0, 3, Op::Set(0, 1, 3))]);
-    commits(rt, alloc, &mut store, &[(0, 4, Op::Set(0, 1, 4))]);
+fn rolled_device(rt: &impl Host) -> MemDisk {
+    let mut store = opened(rt, formatted(rt, 5));
+    commits(rt, &mut store, &[(0, 1, &[Op::Add(0, 1, 1)])]);
+    commits(rt, &mut store, &[(0, 2, &[Op::Set(0, 1, 2)])]);
+    rolls(rt, &mut store);
+    commits(rt, &mut store, &[(0, 3, &[Op::Set(0, 1, 3)])]);
+    commits(rt, &mut store, &[(0, 4, &[Op::Set(0, 1, 4)])]);
     has(rt, &store, (0, 1), (4, 1, Some(4)), "rolled");
     store.into_disk()
 }
 
 #[test]
 fn formats_over_an_older_store(rt: HostRuntime) {
-    let alloc = rt.alloc();
     let rt = &rt;
-    let disk = rolled_device(rt, alloc);
-    formats_again(rt, alloc, disk, "over a store")
+    let disk = rolled_device(rt);
+    formats_again(rt, disk, "over a store")
 }
 
 #[test]
 fn rolls_over_an_older_store(rt: HostRuntime) {
-    let alloc = rt.alloc();
     let rt = &rt;
     // a roll of the new store finds the other slot closed, and what stands there counts for nothing
-    let mut disk = rolled_device(rt, alloc);
-    formats(rt, &mut disk, 5, Ok(()), "over a store");
-    let mut store = opened(rt, alloc, disk);
-    rolls(rt, alloc, &mut store);
+    let mut disk = rolled_device(rt);
+    same(rt, format(&mut disk, 5), Ok(()), "over a store");
+    let mut store = opened(rt, disk);
+    rolls(rt, &mut store);
     let mut disk = store.into_disk();
     let head = "01 0000000000000002 0000000000000000 0005 00000000 0000000000000000";
     shows(rt, &mut disk, SECOND_SLOT, head);
-    opens(rt, alloc, disk, (0, 1), (0, 0, None), "rolled");
+    opens(rt, disk, (0, 1), (0, 0, None), "rolled");
 }

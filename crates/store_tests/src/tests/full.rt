@@ -2,16 +2,16 @@
 use super::*;
 
 // A device of five nodes after 106 groups of 64 requests of 16 ops, the first op of which adds an edge.
-fn full_device(rt: &impl Abort, alloc: Global) -> Store<MemDisk> {
-    let mut store = opened(rt, alloc, formatted(rt, alloc, 5));
+fn full_device(rt: &impl Host) -> Store<MemDisk> {
+    let mut store = opened(rt, formatted(rt, 5));
     let mut ops = [Op::Set(0, 1, 1); 16];
     ops[0] = Op::Add(0, 1, 1);
-    let mut group = Vec::new(alloc);
+    let mut group = Vec::new(rt.alloc());
     got(rt, group.push(request(rt, 0, 1, &ops)));
     add_requests(rt, &mut group, 2, 63, 16);
-    answers(rt, alloc, &mut store, &group, Ok(()), "the first group");
+    got(rt, commit(rt, &mut store, &group));
     for i in 1..106u64 {
-        takes(rt, alloc, &mut store, &[(1 + 64 * i, 64, 16)]);
+        takes(rt, &mut store, &[(1 + 64 * i, 64, 16)]);
     }
     store
 }
@@ -20,36 +20,30 @@ fn full_device(rt: &impl Abort, alloc: Global) -> Store<MemDisk> {
 const LAST_GATE: usize = 1_577_958;
 
 // The length of the last record says a byte more or less than its 64 requests of 16 ops have.
-fn is_damaged(rt: &impl Abort, alloc: Global, disk: MemDisk, byte: u8) -> MemDisk {
+fn is_damaged(rt: &impl Host, disk: MemDisk, byte: u8) -> MemDisk {
     let disk = spoilt(rt, disk, 1_568_099, byte);
-    let disk = is_refused(rt, alloc, disk, OpenRefused::Damaged, "a length");
+    let disk = is_refused(rt, disk, OpenRefused::Damaged, "a length");
     spoilt(rt, disk, 1_568_099, 0x82)
 }
 
 #[test]
 fn fills_a_journal(rt: HostRuntime) {
-    let alloc = rt.alloc();
     let rt = &rt;
-    let store = full_device(rt, alloc);
-    shows_last(rt, &store, 6784, "full");
+    let mut disk = at_last(rt, full_device(rt), 6784, "full");
     // the last record of 9,863 bytes, and the next gate at 1,045,478 of the area
-    let mut disk = store.into_disk();
     let front = "01 00002682 0040 00 0000000000001a41 10";
     shows(rt, &mut disk, 1_568_095, front);
     shows(rt, &mut disk, LAST_GATE, "00");
-    let disk = is_damaged(rt, alloc, disk, 0x81);
-    let disk = is_damaged(rt, alloc, disk, 0x83);
-    ends_at_last(rt, opened(rt, alloc, disk), 6784, "opened");
+    let disk = is_damaged(rt, disk, 0x81);
+    let disk = is_damaged(rt, disk, 0x83);
+    let _disk = at_last(rt, opened(rt, disk), 6784, "opened");
 }
 
-// The count and the last ticket of session 0 are one number, and the edge 0-1 is the only one.
-fn shows_last(rt: &impl Abort, store: &Store<MemDisk>, last: u64, name: &str) {
-    has(rt, store, (0, 1), (last, 1, Some(1)), name);
+// The device of a store whose count and whose last ticket of session 0 are this number, and whose only edge is 0-1.
+fn at_last(rt: &impl Abort, store: Store<MemDisk>, last: u64, name: &str) -> MemDisk {
+    has(rt, &store, (0, 1), (last, 1, Some(1)), name);
     same(rt, store.resume(0), last, name);
-}
-
-fn ends_at_last(rt: &impl Abort, store: Store<MemDisk>, last: u64, name: &str) {
-    shows_last(rt, &store, last, name)
+    store.into_disk()
 }
 
 // 22 requests with 319 ops, 3,098 bytes.
@@ -57,39 +51,31 @@ const PAST_THE_END: [(u64, u64, usize); 3] = [(6785, 19, 16), (6804, 1, 13), (68
 
 #[test]
 fn a_full_journal_needs_a_roll(rt: HostRuntime) {
-    let alloc = rt.alloc();
     let rt = &rt;
-    let mut disk = full_device(rt, alloc).into_disk();
+    let mut disk = full_device(rt).into_disk();
     let before = digest(rt, &mut disk);
-    let mut store = opened(rt, alloc, disk);
-    finds_no_room(rt, alloc, &mut store);
-    ends_as(rt, store.into_disk(), before, "past the end");
-}
-
-fn finds_no_room(rt: &impl Abort, alloc: Global, store: &mut Store<MemDisk>) {
-    let group = runs_of(rt, alloc, &PAST_THE_END);
-    let want = Err(CommitRefused::NeedsRoll);
-    answers(rt, alloc, store, &group, want, "past the end");
-    shows_last(rt, store, 6784, "past the end");
+    let mut store = opened(rt, disk);
+    let answer = answer_to_runs(rt, &mut store, &PAST_THE_END);
+    same(rt, answer, Err(CommitRefused::NeedsRoll), "past the end");
     same(rt, store.is_down(), false, "past the end");
+    let mut disk = at_last(rt, store, 6784, "past the end");
+    same(rt, digest(rt, &mut disk), before, "past the end");
 }
 
 #[test]
 fn a_rolled_journal_takes_the_group(rt: HostRuntime) {
-    let alloc = rt.alloc();
     let rt = &rt;
-    let mut store = full_device(rt, alloc);
-    rolls(rt, alloc, &mut store);
-    takes(rt, alloc, &mut store, &PAST_THE_END);
-    shows_last(rt, &store, 6806, "rolled");
-    let mut disk = store.into_disk();
+    let mut store = full_device(rt);
+    rolls(rt, &mut store);
+    takes(rt, &mut store, &PAST_THE_END);
+    let mut disk = at_last(rt, store, 6806, "rolled");
     shows(rt, &mut disk, SECOND_AREA, "01 00000c15 0016");
     let record = bytes::<3098>(rt, &mut disk, SECOND_AREA);
-    ends_at_last(rt, opened(rt, alloc, disk), 6806, "opened");
+    let _disk = at_last(rt, opened(rt, disk), 6806, "opened");
     // where the full journal ends it is damage: the gate behind it would be the other slot's
-    let mut disk = full_device(rt, alloc).into_disk();
+    let mut disk = full_device(rt).into_disk();
     put(rt, &mut disk, LAST_GATE, &record);
-    is_refused(rt, alloc, disk, OpenRefused::Damaged, "past the end");
+    is_refused(rt, disk, OpenRefused::Damaged, "past the end");
 }
 
 // The last group, where in the area its next gate stands, and the count. Where that gate is open there is no room for a record: at
@@ -114,24 +100,23 @@ const LAST: [([(u64, u64, usize); 3], usize, u64); 3] = [
 ];
 
 // Commits the last group, and opens the device with the gate behind it closed and open.
-fn ends_there(rt: &impl Abort, alloc: Global, runs: Runs<'_>, gate: usize, count: u64) -> MemDisk {
-    let mut store = full_device(rt, alloc);
-    takes(rt, alloc, &mut store, runs);
-    let store = reopened(rt, alloc, store);
+fn ends_there(rt: &impl Host, runs: Runs<'_>, gate: usize, count: u64) -> MemDisk {
+    let mut store = full_device(rt);
+    takes(rt, &mut store, runs);
+    let store = reopened(rt, store);
     has(rt, &store, (0, 1), (count, 1, Some(1)), "a closed gate");
     let mut disk = store.into_disk();
     let gate = FIRST_AREA.wrapping_add(gate);
     shows(rt, &mut disk, gate, "00 00");
     let disk = spoilt(rt, disk, gate, 1);
-    is_refused(rt, alloc, disk, OpenRefused::Damaged, "an open gate")
+    is_refused(rt, disk, OpenRefused::Damaged, "an open gate")
 }
 
 #[test]
 fn a_group_fits_by_one_byte(rt: HostRuntime) {
-    let alloc = rt.alloc();
     let rt = &rt;
     for (runs, gate, count) in &LAST {
-        let mut disk = ends_there(rt, alloc, runs, *gate, *count);
+        let mut disk = ends_there(rt, runs, *gate, *count);
         if *count == 6805 {
             shows(rt, &mut disk, LAST_GATE, "01 00000c14 0015");
         }
@@ -150,18 +135,18 @@ fn add_edges(rt: &impl Abort, group: &mut Vec<Request>, first: u16) {
 }
 
 // A store of 16,384 nodes with 65,536 edges.
-fn crowded(rt: &impl Abort, alloc: Global) -> Store<MemDisk> {
-    let mut store = opened(rt, alloc, formatted(rt, alloc, 16_384));
+fn crowded(rt: &impl Host) -> Store<MemDisk> {
+    let mut store = opened(rt, formatted(rt, 16_384));
     for first in (0..4096u16).step_by(64) {
-        takes_edges(rt, alloc, &mut store, first);
+        takes_edges(rt, &mut store, first);
     }
     store
 }
 
-fn takes_edges(rt: &impl Abort, alloc: Global, store: &mut Store<MemDisk>, first: u16) {
-    let mut group = Vec::new(alloc);
+fn takes_edges(rt: &impl Host, store: &mut Store<MemDisk>, first: u16) {
+    let mut group = Vec::new(rt.alloc());
     add_edges(rt, &mut group, first);
-    answers(rt, alloc, store, &group, Ok(()), "edges");
+    got(rt, commit(rt, store, &group));
 }
 
 // The nodes of the first edge and of the last one.
@@ -171,11 +156,10 @@ const LAST_EDGE: (u16, u16) = (4095, 16_383);
 
 #[test]
 fn rolls_the_most_edges(rt: HostRuntime) {
-    let alloc = rt.alloc();
     let rt = &rt;
-    let mut store = crowded(rt, alloc);
+    let mut store = crowded(rt);
     has(rt, &store, LAST_EDGE, (4096, 65_536, Some(16)), "edges");
-    rolls(rt, alloc, &mut store);
+    rolls(rt, &mut store);
     let mut disk = store.into_disk();
     // gate, epoch 2, count, nodes, number of edges, the tickets of sessions 0 and 1; the first edge; and the last, which ends 524,823
     // bytes behind the slot's start
@@ -184,12 +168,12 @@ fn rolls_the_most_edges(rt: HostRuntime) {
     shows(rt, &mut disk, SECOND_SLOT, front);
     shows(rt, &mut disk, SECOND_EDGES, "0000 3ff0 00000001");
     shows(rt, &mut disk, 2_105_871, "0fff 3fff 00000010 00");
-    let store = opened(rt, alloc, disk);
+    let store = opened(rt, disk);
     has(rt, &store, FIRST, (4096, 65_536, Some(1)), "opened");
     has(rt, &store, LAST_EDGE, (4096, 65_536, Some(16)), "opened");
     // one edge more, in its place and in the number of edges
     let mut disk = store.into_disk();
     put_text(rt, &mut disk, 2_105_879, "1000 3ff0 00000001");
     let disk = spoilt(rt, disk, 1_581_078, 1);
-    is_refused(rt, alloc, disk, OpenRefused::Damaged, "an edge too many");
+    is_refused(rt, disk, OpenRefused::Damaged, "an edge too many");
 }

@@ -22,8 +22,13 @@ pub(super) const SECOND_AREA: usize = 2_109_440;
 // Count, edges and the weight of one edge.
 pub(super) type Shown = (u64, usize, Option<u32>);
 
-// An op under the session and the ticket of its request.
-pub(super) type Asked = (u8, u64, Op);
+// A request: its session, its ticket and its ops.
+pub(super) type Asked<'a> = (u8, u64, &'a [Op]);
+
+// What a test stands on: what ends it, and memory.
+pub(super) trait Host: Abort + AllocGlobal {}
+
+impl<R: Abort + AllocGlobal> Host for R {}
 
 // The value of an answer that has to have one.
 pub(super) fn got<T, E: Drop>(rt: &impl Abort, answer: Result<T, E>) -> T {
@@ -41,46 +46,29 @@ pub(super) fn same<T: Copy + PartialEq + Debug>(rt: &impl Abort, found: T, want:
 // ---- devices
 
 // A device of so many zeros.
-pub(super) fn blank(rt: &impl Abort, alloc: Global, len: usize) -> MemDisk {
-    got(rt, test_doubles::blank(alloc, len))
+pub(super) fn blank(rt: &impl Host, len: usize) -> MemDisk {
+    got(rt, test_doubles::blank(rt.alloc(), len))
 }
 
 // A device for so many nodes.
-pub(super) fn formatted(rt: &impl Abort, alloc: Global, nodes: u16) -> MemDisk {
-    got(rt, test_doubles::formatted(alloc, nodes))
+pub(super) fn formatted(rt: &impl Host, nodes: u16) -> MemDisk {
+    got(rt, test_doubles::formatted(rt.alloc(), nodes))
 }
 
 // The store of a device.
-pub(super) fn opened(rt: &impl Abort, alloc: Global, disk: MemDisk) -> Store<MemDisk> {
-    got(rt, test_doubles::opened(alloc, disk))
+pub(super) fn opened(rt: &impl Host, disk: MemDisk) -> Store<MemDisk> {
+    got(rt, test_doubles::opened(rt.alloc(), disk))
 }
 
 // Sees why a device can't be opened, and gives it back.
-pub(super) fn is_refused(
-    rt: &impl Abort,
-    alloc: Global,
-    disk: MemDisk,
-    want: OpenRefused,
-    name: &str,
-) -> MemDisk {
-    match test_doubles::opened(alloc, disk) {
+pub(super) fn is_refused(rt: &impl Host, disk: MemDisk, want: OpenRefused, name: &str) -> MemDisk {
+    match test_doubles::opened(rt.alloc(), disk) {
         Ok(_) => panic!(rt; "{name}: opened"),
         Err((refused, disk)) => {
             same(rt, refused, want, name);
             disk
         }
     }
-}
-
-// Formats a device.
-pub(super) fn formats(
-    rt: &impl Abort,
-    disk: &mut MemDisk,
-    nodes: u16,
-    want: Result<(), FormatRefused>,
-    name: &str,
-) {
-    same(rt, format(disk, nodes), want, name);
 }
 
 // ---- requests
@@ -93,38 +81,20 @@ pub(super) fn request(rt: &impl Abort, session: u8, ticket: u64, ops: &[Op]) -> 
     }
 }
 
-// The requests of a list of ops: those in a row that have one session and ticket are one request. None where they are too many.
-fn group_of(alloc: Global, asked: &[Asked]) -> Result<Option<Vec<Request>>, AllocError> {
-    let mut group = Vec::new(alloc);
-    let mut ops = Vec::new(alloc);
-    for (i, (session, ticket, op)) in asked.iter().enumerate() {
-        ops.push(*op)?;
-        let is_last = match asked.get(i + 1) {
-            Some((other, next, _)) => other != session || next != ticket,
-            None => true,
-        };
-        if is_last {
-            let Ok(change) = Change::new(&ops) else {
-                return Ok(None);
-            };
-            group.push(Request {
-                session: *session,
-                ticket: *ticket,
-                change,
-            })?;
-            ops.clear();
-        }
+fn group_of(rt: &impl Host, asked: &[Asked]) -> Result<Vec<Request>, AllocError> {
+    let mut group = Vec::new(rt.alloc());
+    for (session, ticket, ops) in asked {
+        group.push(request(rt, *session, *ticket, ops))?;
     }
-    Ok(Some(group))
+    Ok(group)
 }
 
-// The same, made again where memory was short.
-pub(super) fn group_again(rt: &impl Abort, alloc: Global, asked: &[Asked]) -> Vec<Request> {
-    let group = match group_of(alloc, asked) {
+// The requests of a table, made again where memory was short.
+pub(super) fn group_again(rt: &impl Host, asked: &[Asked]) -> Vec<Request> {
+    match group_of(rt, asked) {
         Ok(group) => group,
-        Err(_) => got(rt, group_of(alloc, asked)),
-    };
-    got(rt, group.ok_or("too many ops"))
+        Err(_) => got(rt, group_of(rt, asked)),
+    }
 }
 
 // So many requests of session 0 of so many ops each, from a ticket on. Each op sets the edge 0-1 to the weight 1.
@@ -185,111 +155,123 @@ fn accepts(alloc: Global, graph: &Graph, requests: &[Request]) -> bool
 
 // Commits 1 to 64 requests in turn that the graph accepts.
 pub(super) fn commit_once(
-    rt: &impl Abort,
-    alloc: Global,
+    rt: &impl Host,
     store: &mut Store<MemDisk>,
     requests: &[Request],
 ) -> Result<(), CommitRefused> {
     if requests.is_empty() || requests.len() > 64 || !is_in_turn(store.starts(), requests) {
         panic!(rt; "no group in turn");
     }
-    if !accepts(alloc, store.graph(), requests) {
+    if !accepts(rt.alloc(), store.graph(), requests) {
         panic!(rt; "not accepted");
     }
-    store.commit(alloc, requests)
+    store.commit(rt.alloc(), requests)
 }
 
 // The same, again where memory was short.
 pub(super) fn commit(
-    rt: &impl Abort,
-    alloc: Global,
+    rt: &impl Host,
     store: &mut Store<MemDisk>,
     requests: &[Request],
 ) -> Result<(), CommitRefused> {
-    match commit_once(rt, alloc, store, requests) {
-        Err(CommitRefused::Memory) => commit_once(rt, alloc, store, requests),
+    match commit_once(rt, store, requests) {
+        Err(CommitRefused::Memory) => commit_once(rt, store, requests),
         answer => answer,
     }
-}
-
-// Sees what a commit answers.
-pub(super) fn answers(
-    rt: &impl Abort,
-    alloc: Global,
-    store: &mut Store<MemDisk>,
-    requests: &[Request],
-    want: Result<(), CommitRefused>,
-    name: &str,
-) {
-    same(rt, commit(rt, alloc, store, requests), want, name);
 }
 
 // Runs of requests of session 0: the first ticket, how many requests, and how many ops each.
 pub(super) type Runs<'a> = &'a [(u64, u64, usize)];
 
-pub(super) fn runs_of(rt: &impl Abort, alloc: Global, runs: Runs<'_>) -> Vec<Request> {
-    let mut group = Vec::new(alloc);
+fn runs_of(rt: &impl Host, runs: Runs<'_>) -> Vec<Request> {
+    let mut group = Vec::new(rt.alloc());
     for (ticket, changes, ops) in runs {
         add_requests(rt, &mut group, *ticket, *changes, *ops);
     }
     group
 }
 
-// A group of such runs is committed.
-pub(super) fn takes(rt: &impl Abort, alloc: Global, store: &mut Store<MemDisk>, runs: Runs<'_>) {
-    let group = runs_of(rt, alloc, runs);
-    answers(rt, alloc, store, &group, Ok(()), "a group");
-}
-
-// What a commit of a list of ops answers.
-pub(super) fn answer_to(
-    rt: &impl Abort,
-    alloc: Global,
+// What a commit of such runs answers.
+pub(super) fn answer_to_runs(
+    rt: &impl Host,
     store: &mut Store<MemDisk>,
-    asked: &[Asked],
+    runs: Runs<'_>,
 ) -> Result<(), CommitRefused> {
-    let group = group_again(rt, alloc, asked);
-    commit(rt, alloc, store, &group)
+    let group = runs_of(rt, runs);
+    commit(rt, store, &group)
 }
 
-// Commits a list of ops.
-pub(super) fn commits(rt: &impl Abort, alloc: Global, store: &mut Store<MemDisk>, asked: &[Asked]) {
-    got(rt, answer_to(rt, alloc, store, asked));
+// Commits such runs.
+pub(super) fn takes(rt: &impl Host, store: &mut Store<MemDisk>, runs: Runs<'_>) {
+    got(rt, answer_to_runs(rt, store, runs));
+}
+
+// Commits the requests of a table.
+pub(super) fn commits(rt: &impl Host, store: &mut Store<MemDisk>, asked: &[Asked]) {
+    let group = group_again(rt, asked);
+    got(rt, commit(rt, store, &group));
 }
 
 // Rolls, again where memory was short.
-pub(super) fn roll(alloc: Global, store: &mut Store<MemDisk>) -> Result<(), RollRefused> {
-    match store.roll(alloc) {
-        Err(RollRefused::Memory) => store.roll(alloc),
+pub(super) fn roll(rt: &impl Host, store: &mut Store<MemDisk>) -> Result<(), RollRefused> {
+    match store.roll(rt.alloc()) {
+        Err(RollRefused::Memory) => store.roll(rt.alloc()),
         answer => answer,
     }
 }
 
-pub(super) fn rolls(rt: &impl Abort, alloc: Global, store: &mut Store<MemDisk>) {
-    got(rt, roll(alloc, store));
-}
+// What a roll of a store that is down answers.
+pub(super) const ROLL_DOWN: Result<(), RollRefused> = Err(RollRefused::Down);
 
-// Sees that a roll is refused.
-pub(super) fn rolls_not(
-    rt: &impl Abort,
-    alloc: Global,
-    store: &mut Store<MemDisk>,
-    want: RollRefused,
-    name: &str,
-) {
-    same(rt, roll(alloc, store), Err(want), name);
+pub(super) fn rolls(rt: &impl Host, store: &mut Store<MemDisk>) {
+    got(rt, roll(rt, store));
 }
 
 // A device for five nodes with one committed edge.
-pub(super) fn with_edge(rt: &impl Abort, alloc: Global) -> MemDisk {
-    let mut store = opened(rt, alloc, formatted(rt, alloc, 5));
-    commits(rt, alloc, &mut store, &[(0, 1, Op::Add(0, 1, 1))]);
+pub(super) fn with_edge(rt: &impl Host) -> MemDisk {
+    let mut store = opened(rt, formatted(rt, 5));
+    commits(rt, &mut store, &[(0, 1, &[Op::Add(0, 1, 1)])]);
     store.into_disk()
 }
 
 pub(super) fn shown(store: &Store<MemDisk>, a: u16, b: u16) -> Shown {
     let graph = store.graph();
     (store.count(), graph.edges(), graph.weight(a, b))
+}
+
+// What a store shows of the edge 0-1, the weight of 1-2, and the last tickets of the sessions 0, 4, 5 and 9.
+pub(super) type Seen = (Shown, Option<u32>, [u64; 4]);
+
+pub(super) fn seen(store: &Store<MemDisk>) -> Seen {
+    let tickets = [
+        store.resume(0),
+        store.resume(4),
+        store.resume(5),
+        store.resume(9),
+    ];
+    (shown(store, 0, 1), store.graph().weight(1, 2), tickets)
+}
+
+// What a store with one committed edge shows.
+pub(super) const WITH_EDGE: Seen = ((1, 1, Some(1)), None, [1, 0, 0, 0]);
+
+const DEVICE: Result<(), CommitRefused> = Err(CommitRefused::Device);
+
+const DOWN: Result<(), CommitRefused> = Err(CommitRefused::Down);
+
+// Commits a group to a device with one edge by a plan that counts its calls, which has to stop it: the store is down then and stays as
+// it was. The disk after that.
+pub(super) fn stopped(rt: &impl Host, disk: MemDisk, group: &[Request], plan: Plan) -> MemDisk {
+    let mut store = opened(rt, disk);
+    store.arm(plan);
+    let answer = commit(rt, &mut store, group);
+    same(rt, (plan, answer), (plan, DEVICE), "stopped");
+    same(rt, store.is_down(), true, "stopped");
+    same(rt, seen(&store), WITH_EDGE, "stopped");
+    same(rt, commit(rt, &mut store, group), DOWN, "again");
+    same(rt, roll(rt, &mut store), ROLL_DOWN, "rolled");
+    same(rt, seen(&store), WITH_EDGE, "as it was");
+    store.into_disk()
 }
 
 // Sees that a store shows this of an edge.
@@ -315,32 +297,20 @@ pub(super) fn ends(
 }
 
 // Opens a device, and sees that its store shows this of an edge.
-pub(super) fn opens(
-    rt: &impl Abort,
-    alloc: Global,
-    disk: MemDisk,
-    nodes: (u16, u16),
-    want: Shown,
-    name: &str,
-) {
-    ends(rt, opened(rt, alloc, disk), nodes, want, name)
+pub(super) fn opens(rt: &impl Host, disk: MemDisk, nodes: (u16, u16), want: Shown, name: &str) {
+    ends(rt, opened(rt, disk), nodes, want, name)
 }
 
 // Opens the device of a store.
-pub(super) fn reopened(rt: &impl Abort, alloc: Global, store: Store<MemDisk>) -> Store<MemDisk> {
-    opened(rt, alloc, store.into_disk())
+pub(super) fn reopened(rt: &impl Host, store: Store<MemDisk>) -> Store<MemDisk> {
+    opened(rt, store.into_disk())
 }
 
 // ---- bytes
 
-// Reads bytes of a device.
-fn reads(rt: &impl Abort, disk: &mut MemDisk, at: usize, bytes: &mut [u8]) {
-    got(rt, test_doubles::read_at(disk, at, bytes));
-}
-
 pub(super) fn bytes<const N: usize>(rt: &impl Abort, disk: &mut MemDisk, at: usize) -> [u8; N] {
     let mut bytes = [0; N];
-    reads(rt, disk, at, &mut bytes);
+    got(rt, test_doubles::read_at(disk, at, &mut bytes));
     bytes
 }
 
@@ -384,10 +354,4 @@ pub(super) fn digest(rt: &impl Abort, disk: &mut MemDisk) -> u64 {
         }
     }
     digest
-}
-
-// Sees that a device that is used no more has the bytes of this digest.
-pub(super) fn ends_as(rt: &impl Abort, disk: MemDisk, before: u64, name: &str) {
-    let mut disk = disk;
-    same(rt, digest(rt, &mut disk), before, name);
 }

@@ -31,28 +31,25 @@ const USED: [(usize, &str); 6] = [
 
 // A device for nine nodes after one roll, its bytes by hand: a checkpoint of count 1 with ticket 1 of session 0 and three edges in
 // the second slot, and two records of two requests each behind it. It takes memory only for the device.
-fn used_device(rt: &impl Abort, alloc: Global) -> MemDisk {
-    let mut disk = formatted(rt, alloc, 9);
+fn used_device(rt: &impl Host) -> MemDisk {
+    let mut disk = formatted(rt, 9);
     for (at, text) in &USED {
         put_text(rt, &mut disk, *at, text);
     }
     disk
 }
 
-// What the store of such a device shows.
-fn assert_used(rt: &impl Abort, store: &Store<MemDisk>) {
-    has(rt, store, (0, 1), (5, 5, Some(9)), "used");
+// A store that shows what that of such a device does.
+fn used(rt: &impl Abort, store: Store<MemDisk>) -> Store<MemDisk> {
+    has(rt, &store, (0, 1), (5, 5, Some(9)), "used");
     let graph = store.graph();
     let pairs = [(0, 2), (0, 3), (5, 6), (4, 5), (3, 4)];
     let found = pairs.map(|(a, b)| graph.weight(a, b));
-    same(
-        rt,
-        found,
-        [Some(2), Some(4), Some(7), Some(6), None],
-        "used",
-    );
+    let want = [Some(2), Some(4), Some(7), Some(6), None];
+    same(rt, found, want, "used");
     let state = (store.resume(0), store.resume(3), store.is_down());
     same(rt, state, (3, 2, false), "used");
+    store
 }
 
 // The device of a store that was refused memory, which has to hold what it held. A byte that was written and not synced would
@@ -65,160 +62,123 @@ fn untouched(rt: &impl Abort, disk: MemDisk, before: u64) -> MemDisk {
 
 #[test]
 fn an_opening_without_memory_is_made_again(rt: HostRuntime) {
-    let alloc = rt.alloc();
     let rt = &rt;
-    let mut disk = used_device(rt, alloc);
+    let mut disk = used_device(rt);
     same(rt, disk.sync().is_ok(), true, "synced");
     let before = digest(rt, &mut disk);
-    ends_used(rt, opened_again(rt, alloc, disk, before));
+    let _disk = used(rt, opened_again(rt, disk, before)).into_disk();
 }
 
 // The store of a device of this digest, opened again where memory was refused.
-fn opened_again(rt: &impl Abort, alloc: Global, disk: MemDisk, before: u64) -> Store<MemDisk> {
-    match Store::open(alloc, disk) {
+fn opened_again(rt: &impl Host, disk: MemDisk, before: u64) -> Store<MemDisk> {
+    match Store::open(rt.alloc(), disk) {
         Ok(store) => store,
         Err((refused, disk)) => {
             same(rt, refused, OpenRefused::Memory, "refused");
-            got(rt, Store::open(alloc, untouched(rt, disk, before)))
+            got(rt, Store::open(rt.alloc(), untouched(rt, disk, before)))
         }
     }
 }
 
-fn ends_used(rt: &impl Abort, store: Store<MemDisk>) {
-    assert_used(rt, &store)
+// Whether memory is refused to a commit of these requests, or to a roll where there are none. Nothing else refuses it.
+fn lacks_memory(rt: &impl Host, store: &mut Store<MemDisk>, group: &[Request]) -> bool {
+    if group.is_empty() {
+        let answer = store.roll(rt.alloc());
+        let may = matches!(answer, Ok(()) | Err(RollRefused::Memory));
+        same(rt, (answer, may), (answer, true), "a roll");
+        return answer.is_err();
+    }
+    let answer = commit_once(rt, store, group);
+    let may = matches!(answer, Ok(()) | Err(CommitRefused::Memory));
+    same(rt, (answer, may), (answer, true), "a commit");
+    answer.is_err()
 }
 
 // The digest of a device before a call, and whether the device is opened again where memory was refused.
 type Left = (u64, bool);
 
 // The store after a refusal: the same, or that of the device as it was left.
-fn after_refusal(
-    rt: &impl Abort,
-    alloc: Global,
-    store: Store<MemDisk>,
-    left: Left,
-) -> Store<MemDisk> {
-    assert_used(rt, &store);
+fn after_refusal(rt: &impl Host, store: Store<MemDisk>, left: Left) -> Store<MemDisk> {
+    let store = used(rt, store);
     let (before, reopens) = left;
     if !reopens {
         return store;
     }
-    let store = opened(rt, alloc, untouched(rt, store.into_disk(), before));
-    assert_used(rt, &store);
+    let disk = untouched(rt, store.into_disk(), before);
+    used(rt, opened(rt, disk))
+}
+
+// The store of a used device, or the one that is opened where memory was refused, behind a commit of these requests, or behind a roll
+// where there are none.
+fn made_again(rt: &impl Host, group: &[Request], reopens: bool) -> Store<MemDisk> {
+    let mut disk = used_device(rt);
+    let before = digest(rt, &mut disk);
+    let mut store = opened(rt, disk);
+    if lacks_memory(rt, &mut store, group) {
+        store = after_refusal(rt, store, (before, reopens));
+        same(rt, lacks_memory(rt, &mut store, group), false, "made again");
+    }
     store
 }
 
 // Three requests: five ops.
-const GROUP: [Asked; 5] = [
-    (0, 4, Op::Add(0, 4, 1)),
-    (0, 4, Op::Add(1, 2, 2)),
-    (3, 3, Op::Set(4, 0, 3)),
-    (3, 3, Op::Cut(0, 2)),
-    (0, 9, Op::Add(7, 8, 1_000_000)),
+const GROUP: [Asked; 3] = [
+    (0, 4, &[Op::Add(0, 4, 1), Op::Add(1, 2, 2)]),
+    (3, 3, &[Op::Set(4, 0, 3), Op::Cut(0, 2)]),
+    (0, 9, &[Op::Add(7, 8, 1_000_000)]),
 ];
 
-fn assert_committed(rt: &impl Abort, store: &Store<MemDisk>) {
-    has(rt, store, (0, 4), (8, 7, Some(3)), "committed");
+// A store that shows what it does behind them.
+fn committed(rt: &impl Abort, store: Store<MemDisk>) -> Store<MemDisk> {
+    has(rt, &store, (0, 4), (8, 7, Some(3)), "committed");
     let graph = store.graph();
     let found = [(7, 8), (1, 2), (0, 2)].map(|(a, b)| graph.weight(a, b));
     same(rt, found, [Some(1_000_000), Some(2), None], "committed");
     same(rt, (store.resume(0), store.resume(3)), (9, 3), "committed");
-}
-
-// A commit, made again where memory was short: on the same store, or on a store of the device as it was left.
-fn commits_again(rt: &impl Abort, alloc: Global, reopens: bool) {
-    let mut disk = used_device(rt, alloc);
-    let before = digest(rt, &mut disk);
-    let group = group_again(rt, alloc, &GROUP);
-    let store = takes_again(
-        rt,
-        alloc,
-        opened(rt, alloc, disk),
-        &group,
-        (before, reopens),
-    );
-    ends_committed(rt, reopened(rt, alloc, store));
-}
-
-// The store, or the one that is opened where memory was refused, with the group committed.
-fn takes_again(
-    rt: &impl Abort,
-    alloc: Global,
-    store: Store<MemDisk>,
-    group: &[Request],
-    left: Left,
-) -> Store<MemDisk> {
-    let mut store = store;
-    let answer = commit_once(rt, alloc, &mut store, group);
-    if answer.is_err() {
-        same(rt, answer, Err(CommitRefused::Memory), "refused");
-        store = after_refusal(rt, alloc, store, left);
-        got(rt, commit_once(rt, alloc, &mut store, group));
-    }
-    assert_committed(rt, &store);
     store
 }
 
-fn ends_committed(rt: &impl Abort, store: Store<MemDisk>) {
-    assert_committed(rt, &store)
+// A commit, made again where memory was short: on the same store, or on a store of the device as it was left.
+fn commits_again(rt: &impl Host, reopens: bool) {
+    let group = group_again(rt, &GROUP);
+    let store = committed(rt, made_again(rt, &group, reopens));
+    let _disk = committed(rt, reopened(rt, store)).into_disk();
 }
 
 #[test]
 fn a_commit_without_memory_is_made_again(rt: HostRuntime) {
-    commits_again(&rt, rt.alloc(), false)
+    commits_again(&rt, false)
 }
 
 #[test]
 fn a_commit_without_memory_writes_nothing(rt: HostRuntime) {
-    commits_again(&rt, rt.alloc(), true)
+    commits_again(&rt, true)
 }
 
 // The same of a roll.
-fn rolls_again(rt: &impl Abort, alloc: Global, reopens: bool) {
-    let mut disk = used_device(rt, alloc);
-    let before = digest(rt, &mut disk);
-    let store = rolled_again(rt, alloc, opened(rt, alloc, disk), (before, reopens));
-    let mut disk = store.into_disk();
+fn rolls_again(rt: &impl Host, reopens: bool) {
+    let mut disk = used(rt, made_again(rt, &[], reopens)).into_disk();
     // an open gate, epoch 3, count 5, nodes 9, five edges, ticket 3 of session 0; and the first edge, 0-1 of weight 9
     let front = "01 0000000000000003 0000000000000005 0009 00000005 0000000000000003";
     shows(rt, &mut disk, FIRST_SLOT, front);
     shows(rt, &mut disk, FIRST_EDGES, "0000 0001 00000009");
-    ends_used(rt, opened(rt, alloc, disk));
-}
-
-// The store, or the one that is opened where memory was refused, after a roll.
-fn rolled_again(
-    rt: &impl Abort,
-    alloc: Global,
-    store: Store<MemDisk>,
-    left: Left,
-) -> Store<MemDisk> {
-    let mut store = store;
-    let answer = store.roll(alloc);
-    if answer.is_err() {
-        same(rt, answer, Err(RollRefused::Memory), "refused");
-        store = after_refusal(rt, alloc, store, left);
-        got(rt, store.roll(alloc));
-    }
-    assert_used(rt, &store);
-    store
+    let _disk = used(rt, opened(rt, disk)).into_disk();
 }
 
 #[test]
 fn a_roll_without_memory_is_made_again(rt: HostRuntime) {
-    rolls_again(&rt, rt.alloc(), false)
+    rolls_again(&rt, false)
 }
 
 #[test]
 fn a_roll_without_memory_writes_nothing(rt: HostRuntime) {
-    rolls_again(&rt, rt.alloc(), true)
+    rolls_again(&rt, true)
 }
 
 // Helpers that ask again, over one store.
 #[test]
 fn answers_after_a_want_of_memory(rt: HostRuntime) {
-    let alloc = rt.alloc();
     let rt = &rt;
-    let disk = with_edge(rt, alloc);
-    opens(rt, alloc, disk, (0, 1), (1, 1, Some(1)), "one edge");
+    let disk = with_edge(rt);
+    opens(rt, disk, (0, 1), (1, 1, Some(1)), "one edge");
 }

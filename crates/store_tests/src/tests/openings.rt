@@ -23,81 +23,61 @@ const NO_STORES: [(usize, &str, OpenRefused); 10] = [
 // The sync of an opening comes first: where it fails, that is told, whatever stands on the device.
 #[test]
 fn refuses_what_is_no_store(rt: HostRuntime) {
-    let alloc = rt.alloc();
     let rt = &rt;
     for (len, text, want) in &NO_STORES {
         for (call, want) in [(1, OpenRefused::Device), (0, *want)].iter() {
-            let mut disk = blank(rt, alloc, *len);
+            let mut disk = blank(rt, *len);
             put_text(rt, &mut disk, 0, text);
             disk.fail_at(*call);
-            is_refused(rt, alloc, disk, *want, text);
+            is_refused(rt, disk, *want, text);
         }
     }
 }
 
 // A device that has rolled, with edges in its checkpoint and so many records behind it that they are read in two parts: eight of
 // 9,863 bytes.
-fn long_device(rt: &impl Abort, alloc: Global) -> MemDisk {
-    let mut store = opened(rt, alloc, formatted(rt, alloc, 5));
-    commits(
-        rt,
-        alloc,
-        &mut store,
-        &[(0, 1, Op::Add(0, 1, 1)), (0, 1, Op::Add(1, 2, 2))],
-    );
-    rolls(rt, alloc, &mut store);
+fn long_device(rt: &impl Host) -> MemDisk {
+    let mut store = opened(rt, formatted(rt, 5));
+    let edges = [Op::Add(0, 1, 1), Op::Add(1, 2, 2)];
+    commits(rt, &mut store, &[(0, 1, &edges)]);
+    rolls(rt, &mut store);
     for i in 0..8u64 {
-        takes(rt, alloc, &mut store, &[(2 + 64 * i, 64, 16)]);
+        takes(rt, &mut store, &[(2 + 64 * i, 64, 16)]);
     }
-    assert_long(rt, &store);
+    is_long(rt, store)
+}
+
+// The device of a store that shows what the long one does.
+fn is_long(rt: &impl Abort, store: Store<MemDisk>) -> MemDisk {
+    let want = ((513, 2, Some(1)), Some(2), [513, 0, 0, 0]);
+    same(rt, seen(&store), want, "a long device");
     store.into_disk()
 }
 
-fn assert_long(rt: &impl Abort, store: &Store<MemDisk>) {
-    let found = (
-        shown(store, 0, 1),
-        store.graph().weight(1, 2),
-        store.resume(0),
-    );
-    same(
-        rt,
-        found,
-        ((513, 2, Some(1)), Some(2), 513),
-        "a long device",
-    );
-}
-
 // Opens the device by a plan, which has to stop it; the device then is the one of before, of this digest, and so it is after a crash.
-fn stopped(rt: &impl Abort, alloc: Global, disk: MemDisk, plan: Plan, before: u64) -> MemDisk {
+fn stopped(rt: &impl Host, disk: MemDisk, plan: Plan, before: u64) -> MemDisk {
     let mut disk = disk;
     disk.arm(plan);
-    let mut disk = is_refused(rt, alloc, disk, OpenRefused::Device, "a call fails");
+    let mut disk = is_refused(rt, disk, OpenRefused::Device, "a call fails");
     disk.arm(Plan::None);
     same(rt, digest(rt, &mut disk), before, "nothing is written");
     // a byte that was written and not synced would be 255 after this crash
     let mut disk = disk.crash(511);
     same(rt, digest(rt, &mut disk), before, "nothing is written");
-    long_again(rt, opened(rt, alloc, disk))
-}
-
-// The device of a store that shows what the long one does.
-fn long_again(rt: &impl Abort, store: Store<MemDisk>) -> MemDisk {
-    assert_long(rt, &store);
-    store.into_disk()
+    is_long(rt, opened(rt, disk))
 }
 
 #[test]
 fn each_call_of_a_long_opening_fails(rt: HostRuntime) {
-    let alloc = rt.alloc();
     let rt = &rt;
-    let mut disk = long_device(rt, alloc);
+    let mut disk = long_device(rt);
     let before = digest(rt, &mut disk);
     // a sync, the header, two heads, the tickets, the edges, and the records in two parts
     for call in 1..9u64 {
-        disk = stopped(rt, alloc, disk, Plan::Fail(call), before);
-        disk = stopped(rt, alloc, disk, Plan::Stop(call, 0), before);
+        disk = stopped(rt, disk, Plan::Fail(call), before);
+        disk = stopped(rt, disk, Plan::Stop(call, 0), before);
     }
     // no call is left out, and none is made besides
     disk.fail_at(9);
-    let _disk = long_again(rt, opened(rt, alloc, disk));
+    let _disk = is_long(rt, opened(rt, disk));
 }

@@ -3,10 +3,10 @@ use super::*;
 
 // Tickets of three sessions, some left out.
 const ASKED: [Asked; 4] = [
-    (0, 3, Op::Add(0, 1, 1)),
-    (63, 258, Op::Add(1, 2, 2)),
-    (0, 7, Op::Set(0, 1, 5)),
-    (7, WORN_LIMIT, Op::Add(2, 3, 3)),
+    (0, 3, &[Op::Add(0, 1, 1)]),
+    (63, 258, &[Op::Add(1, 2, 2)]),
+    (0, 7, &[Op::Set(0, 1, 5)]),
+    (7, WORN_LIMIT, &[Op::Add(2, 3, 3)]),
 ];
 
 // The device of a store that has these changes.
@@ -38,144 +38,129 @@ const ROLLED: [(usize, &str); 7] = [
 
 #[test]
 fn rolls_into_the_other_slot(rt: HostRuntime) {
-    let alloc = rt.alloc();
     let rt = &rt;
-    let mut store = opened(rt, alloc, formatted(rt, alloc, 5));
+    let mut store = opened(rt, formatted(rt, 5));
     same(rt, store.starts(), [0; 64], "fresh");
-    commits(rt, alloc, &mut store, &ASKED);
+    commits(rt, &mut store, &ASKED);
     // what is left in the other slot from before counts for nothing
     let disk = spoilt(rt, kept(rt, store, "committed"), 1_581_700, 7);
-    let mut store = opened(rt, alloc, spoilt(rt, disk, 2_109_440, 1));
-    rolls(rt, alloc, &mut store);
+    let mut store = opened(rt, spoilt(rt, disk, 2_109_440, 1));
+    rolls(rt, &mut store);
     let mut disk = kept(rt, store, "rolled");
     for (at, text) in &ROLLED {
         shows(rt, &mut disk, *at, text);
     }
     shows_zeros(rt, &mut disk, 1_581_087, 6);
     shows_zeros(rt, &mut disk, 1_581_143, 54);
-    let _disk = kept(rt, opened(rt, alloc, disk), "opened");
+    let _disk = kept(rt, opened(rt, disk), "opened");
 }
 
 #[test]
 fn rolls_back_into_the_first_slot(rt: HostRuntime) {
-    let alloc = rt.alloc();
     let rt = &rt;
-    let mut store = opened(rt, alloc, with_edge(rt, alloc));
-    rolls(rt, alloc, &mut store);
-    let mut store = reopened(rt, alloc, store);
-    rolls(rt, alloc, &mut store);
+    let mut store = opened(rt, with_edge(rt));
+    rolls(rt, &mut store);
+    let mut store = reopened(rt, store);
+    rolls(rt, &mut store);
     let mut disk = store.into_disk();
     shows(rt, &mut disk, FIRST_SLOT, "01 0000000000000003");
     shows(rt, &mut disk, SECOND_SLOT, "01 0000000000000002");
-    opens(rt, alloc, disk, (0, 1), (1, 1, Some(1)), "opened");
+    opens(rt, disk, (0, 1), (1, 1, Some(1)), "opened");
 }
 
+const WORN: Result<(), RollRefused> = Err(RollRefused::Worn);
+
 // A commit to this device writes nothing into the second slot.
-fn first_slot_stays(rt: &impl Abort, alloc: Global, disk: MemDisk) {
-    let mut store = opened(rt, alloc, disk);
-    commits(rt, alloc, &mut store, &[(0, 1, Op::Add(0, 1, 1))]);
+fn first_slot_stays(rt: &impl Host, disk: MemDisk) {
+    let mut store = opened(rt, disk);
+    commits(rt, &mut store, &[(0, 1, &[Op::Add(0, 1, 1)])]);
     shows_zeros(rt, &mut store.into_disk(), SECOND_SLOT, 68)
 }
 
 #[test]
 fn a_worn_epoch_stays(rt: HostRuntime) {
-    let alloc = rt.alloc();
     let rt = &rt;
-    let mut disk = formatted(rt, alloc, 5);
+    let mut disk = formatted(rt, 5);
     put_text(rt, &mut disk, 4097, "7fffffffffffffff");
     let before = digest(rt, &mut disk);
-    let mut store = opened(rt, alloc, disk);
-    rolls_not(rt, alloc, &mut store, RollRefused::Worn, "worn");
+    let mut store = opened(rt, disk);
+    same(rt, roll(rt, &mut store), WORN, "worn");
     same(rt, store.is_down(), false, "worn");
     let mut disk = store.into_disk();
     same(rt, digest(rt, &mut disk), before, "worn");
-    first_slot_stays(rt, alloc, disk);
+    first_slot_stays(rt, disk);
 }
 
 #[test]
 fn rolls_to_the_last_epoch(rt: HostRuntime) {
-    let alloc = rt.alloc();
     let rt = &rt;
     // one below the limit there is one roll, and no second
-    let mut disk = with_edge(rt, alloc);
+    let mut disk = with_edge(rt);
     put_text(rt, &mut disk, 4097, "7ffffffffffffffe");
-    let mut store = opened(rt, alloc, disk);
-    rolls(rt, alloc, &mut store);
-    rolls_not(rt, alloc, &mut store, RollRefused::Worn, "worn");
+    let mut store = opened(rt, disk);
+    rolls(rt, &mut store);
+    same(rt, roll(rt, &mut store), WORN, "worn");
     let mut disk = store.into_disk();
     shows(rt, &mut disk, SECOND_SLOT, "01 7fffffffffffffff");
-    opens(rt, alloc, disk, (0, 1), (1, 1, Some(1)), "opened");
+    opens(rt, disk, (0, 1), (1, 1, Some(1)), "opened");
 }
 
 // A device with one roll behind it, and one change behind that.
-fn rolled_once(rt: &impl Abort, alloc: Global) -> MemDisk {
-    let mut store = opened(rt, alloc, with_edge(rt, alloc));
-    rolls(rt, alloc, &mut store);
-    commits(rt, alloc, &mut store, &[(4, 2, Op::Add(1, 2, 5))]);
+fn rolled_once(rt: &impl Host) -> MemDisk {
+    let mut store = opened(rt, with_edge(rt));
+    rolls(rt, &mut store);
+    commits(rt, &mut store, &[(4, 2, &[Op::Add(1, 2, 5)])]);
     store.into_disk()
 }
 
 // What the store of such a device shows.
-fn assert_rolled(rt: &impl Abort, store: &Store<MemDisk>, name: &str) {
-    let found = (
-        shown(store, 0, 1),
-        store.graph().weight(1, 2),
-        store.resume(0),
-        store.resume(4),
-    );
-    same(rt, found, ((2, 2, Some(1)), Some(5), 1, 2), name);
-}
+const ROLLED_ONCE: Seen = ((2, 2, Some(1)), Some(5), [1, 2, 0, 0]);
 
 // A second roll by a plan that counts its calls, and what it answers; and the disk after it.
-fn second_roll(rt: &impl Abort, alloc: Global, plan: Plan) -> (Result<(), RollRefused>, MemDisk) {
-    let mut store = opened(rt, alloc, rolled_once(rt, alloc));
+fn second_roll(rt: &impl Host, plan: Plan) -> (Result<(), RollRefused>, MemDisk) {
+    let mut store = opened(rt, rolled_once(rt));
     store.arm(plan);
-    let answer = roll(alloc, &mut store);
-    assert_rolled(rt, &store, "a second roll");
+    let answer = roll(rt, &mut store);
+    same(rt, seen(&store), ROLLED_ONCE, "a second roll");
     same(rt, store.is_down(), answer.is_err(), "down");
     if answer.is_err() {
-        rolls_not(rt, alloc, &mut store, RollRefused::Down, "again");
+        same(rt, roll(rt, &mut store), ROLL_DOWN, "again");
     }
     (answer, store.into_disk())
 }
 
 // After a crash the state is the same, and a change that is committed then is there after another opening.
-fn goes_on(rt: &impl Abort, alloc: Global, disk: MemDisk, word: u64) {
-    let mut store = opened(rt, alloc, disk.crash(word));
-    assert_rolled(rt, &store, "after a crash");
-    commits(rt, alloc, &mut store, &[(4, 3, Op::Add(2, 3, 9))]);
-    assert_gone_on(rt, reopened(rt, alloc, store));
+fn goes_on(rt: &impl Host, disk: MemDisk, word: u64) {
+    let mut store = opened(rt, disk.crash(word));
+    same(rt, seen(&store), ROLLED_ONCE, "after a crash");
+    commits(rt, &mut store, &[(4, 3, &[Op::Add(2, 3, 9)])]);
+    has_gone_on(rt, reopened(rt, store));
 }
 
-fn assert_gone_on(rt: &impl Abort, store: Store<MemDisk>) {
-    let found = (
-        shown(&store, 1, 2),
-        store.graph().weight(2, 3),
-        store.resume(0),
-        store.resume(4),
-    );
-    same(rt, found, ((3, 3, Some(5)), Some(9), 1, 3), "opened again");
+fn has_gone_on(rt: &impl Abort, store: Store<MemDisk>) {
+    let want = ((3, 3, Some(1)), Some(5), [1, 3, 0, 0]);
+    same(rt, seen(&store), want, "opened again");
+    same(rt, store.graph().weight(2, 3), Some(9), "opened again");
 }
 
 // Fails or stops a roll by a plan, and sees what it answers, and that it goes on after a crash by the word.
-fn rolls_by(rt: &impl Abort, alloc: Global, plan: Plan, want: Result<(), RollRefused>, word: u64) {
-    let (answer, disk) = second_roll(rt, alloc, plan);
+fn rolls_by(rt: &impl Host, plan: Plan, want: Result<(), RollRefused>, word: u64) {
+    let (answer, disk) = second_roll(rt, plan);
     same(rt, answer, want, "a roll by a plan");
-    goes_on(rt, alloc, disk, word);
+    goes_on(rt, disk, word);
 }
 
 const DEVICE: Result<(), RollRefused> = Err(RollRefused::Device);
 
 #[test]
 fn each_call_of_a_roll_fails(rt: HostRuntime) {
-    let alloc = rt.alloc();
     let rt = &rt;
     for word in &CRASH_WORDS {
         // no call is left out, and none is made besides
         for call in 1..7u64 {
-            rolls_by(rt, alloc, Plan::Fail(call), DEVICE, *word);
+            rolls_by(rt, Plan::Fail(call), DEVICE, *word);
         }
-        rolls_by(rt, alloc, Plan::Fail(7), Ok(()), *word);
+        rolls_by(rt, Plan::Fail(7), Ok(()), *word);
     }
 }
 
@@ -203,7 +188,7 @@ const STOPS: [(u64, usize); 16] = [
 fn a_roll_stops_inside_each_write(rt: HostRuntime) {
     for word in &CRASH_WORDS {
         for (call, put) in &STOPS {
-            rolls_by(&rt, rt.alloc(), Plan::Stop(*call, *put), DEVICE, *word);
+            rolls_by(&rt, Plan::Stop(*call, *put), DEVICE, *word);
         }
     }
 }
@@ -211,15 +196,14 @@ fn a_roll_stops_inside_each_write(rt: HostRuntime) {
 // A roll on a device whose other slot was never open leaves its closed gate alone: four calls.
 #[test]
 fn a_first_roll_makes_four_calls(rt: HostRuntime) {
-    let alloc = rt.alloc();
     let rt = &rt;
-    first_roll(rt, alloc, 4, DEVICE);
-    first_roll(rt, alloc, 5, Ok(()));
+    first_roll(rt, 4, DEVICE);
+    first_roll(rt, 5, Ok(()));
 }
 
 // Rolls with this call failing.
-fn first_roll(rt: &impl Abort, alloc: Global, call: u64, want: Result<(), RollRefused>) {
-    let mut store = opened(rt, alloc, with_edge(rt, alloc));
+fn first_roll(rt: &impl Host, call: u64, want: Result<(), RollRefused>) {
+    let mut store = opened(rt, with_edge(rt));
     store.arm(Plan::Fail(call));
-    same(rt, roll(alloc, &mut store), want, "four calls");
+    same(rt, roll(rt, &mut store), want, "four calls");
 }
