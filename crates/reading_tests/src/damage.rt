@@ -1,9 +1,7 @@
 // Devices of other lengths, and a sync that fails. Each case of damage is in conformance/migrate.txt.
-use crate::helpers::{FRONT, NEW_LEN, OLD_LEN, blank, same, settled};
+use crate::helpers::*;
 use disk_trait::{Disk, MemDisk};
 use migrate::{MigrateRefused, bring_over};
-use std::alloc::Global;
-use std::process::Abort;
 
 // How long the old device is, what it begins with, how long the new one is, and the refusal.
 const LENGTHS: [(usize, &[u8], usize, MigrateRefused); 8] = [
@@ -19,32 +17,26 @@ const LENGTHS: [(usize, &[u8], usize, MigrateRefused); 8] = [
 
 // The sync of the old device comes behind the new one's length and before all that the old one holds: where it fails, that is told,
 // whatever stands there.
-fn tells_the_sync(rt: &impl Abort, alloc: Global, old: &mut MemDisk, new: &mut MemDisk) {
+fn tells_the_sync(rt: &impl Host, old: &mut MemDisk, new: &mut MemDisk) {
     old.fail_at(1);
-    let refused = bring_over(alloc, old, new).err();
-    let right = new.len() == NEW_LEN;
-    let want = if right {
+    let refused = bring_over(rt.alloc(), old, new).err();
+    let want = if new.len() == NEW_LEN {
         MigrateRefused::OldDevice
     } else {
         MigrateRefused::BadLength
     };
-    same(rt, (right, refused), (right, Some(want)), "a failed sync");
+    same(rt, refused, Some(want), "a failed sync");
 }
 
 #[test]
 fn tells_lengths_and_layouts_in_order(rt: HostRuntime) {
-    let alloc = rt.alloc();
     let rt = &rt;
     for (len, front, new_len, want) in &LENGTHS {
-        let mut old = settled(rt, alloc, *len, &[(0, *front)]);
-        let mut new = blank(rt, alloc, *new_len);
-        let refused = bring_over(alloc, &mut old, &mut new).err();
-        same(
-            rt,
-            (*len, *new_len, refused),
-            (*len, *new_len, Some(*want)),
-            "lengths",
-        );
-        tells_the_sync(rt, alloc, &mut old, &mut new);
+        let mut old = settled(rt, *len, &[(0, *front)]);
+        let mut new = blank(rt, *new_len);
+        let refused = bring_over(rt.alloc(), &mut old, &mut new).err();
+        let lengths = (*len, *new_len);
+        same(rt, (lengths, refused), (lengths, Some(*want)), "lengths");
+        tells_the_sync(rt, &mut old, &mut new);
     }
 }

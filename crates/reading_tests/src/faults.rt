@@ -1,22 +1,19 @@
 // Each call of both devices failing in turn, and each write of the new one stopped inside.
-use crate::helpers::{MOVED, NEW_LEN, PATH_EDGES, blank, has, holds, path, same, same_bytes};
+use crate::helpers::*;
 use checkpoint::Store;
 use disk_trait::{CrashDisk, MemDisk, Plan};
 use migrate::{MigrateRefused, bring_over};
-use std::alloc::Global;
-use std::process::Abort;
 use test_doubles::CRASH_WORDS;
 
 #[test]
 fn tells_each_fault_of_the_old_device(rt: HostRuntime) {
-    let alloc = rt.alloc();
     let rt = &rt;
-    let mut old = path(rt, alloc);
-    let mut new = blank(rt, alloc, NEW_LEN);
+    let mut old = path(rt);
+    let mut new = blank(rt, NEW_LEN);
     let mut faults = 0;
     for call in 1..100 {
         old.fail_at(call);
-        let answer = bring_over(alloc, &mut old, &mut new);
+        let answer = bring_over(rt.alloc(), &mut old, &mut new);
         if answer.is_ok() {
             break;
         }
@@ -27,18 +24,18 @@ fn tells_each_fault_of_the_old_device(rt: HostRuntime) {
     let several = (5..99).contains(&faults);
     same(rt, (faults, several), (faults, true), "the faults");
     old.arm(Plan::None);
-    let mut before = path(rt, alloc);
+    let mut before = path(rt);
     same_bytes(rt, &mut old, &mut before, "the old device");
 }
 
 // Whether the whole path is left on a new device of which a call failed, after a crash by a word. What is left may else be no store.
-fn is_left_whole(rt: &impl Abort, alloc: Global, old: &mut MemDisk, plan: Plan, word: u64) -> bool {
-    let mut new = blank(rt, alloc, NEW_LEN);
+fn is_left_whole(rt: &impl Host, old: &mut MemDisk, plan: Plan, word: u64) -> bool {
+    let mut new = blank(rt, NEW_LEN);
     new.arm(plan);
-    let answer = bring_over(alloc, old, &mut new);
+    let answer = bring_over(rt.alloc(), old, &mut new);
     let want = Err(MigrateRefused::NewDevice);
     same(rt, (plan, answer), (plan, want), "a fault");
-    match Store::open(alloc, new.crash(word)) {
+    match Store::open(rt.alloc(), new.crash(word)) {
         Ok(store) => {
             has(rt, &store, 1, &PATH_EDGES);
             true
@@ -76,12 +73,11 @@ const PLANS: [(Plan, [bool; 5]); 16] = [
 
 #[test]
 fn leaves_nothing_or_the_whole_of_each_fault(rt: HostRuntime) {
-    let alloc = rt.alloc();
     let rt = &rt;
-    let mut old = path(rt, alloc);
+    let mut old = path(rt);
     for (plan, whole) in &PLANS {
         for (word, want) in CRASH_WORDS.iter().zip(whole.iter()) {
-            let left = is_left_whole(rt, alloc, &mut old, *plan, *word);
+            let left = is_left_whole(rt, &mut old, *plan, *word);
             same(rt, (*plan, *word, left), (*plan, *word, *want), "left");
         }
     }
@@ -89,31 +85,29 @@ fn leaves_nothing_or_the_whole_of_each_fault(rt: HostRuntime) {
 
 #[test]
 fn needs_ten_calls_of_the_new_device(rt: HostRuntime) {
-    let alloc = rt.alloc();
     let rt = &rt;
-    let mut old = path(rt, alloc);
+    let mut old = path(rt);
     for word in &CRASH_WORDS {
-        let mut new = blank(rt, alloc, NEW_LEN);
+        let mut new = blank(rt, NEW_LEN);
         new.fail_at(11);
-        let answer = bring_over(alloc, &mut old, &mut new);
+        let answer = bring_over(rt.alloc(), &mut old, &mut new);
         same(rt, answer, MOVED, "the path");
-        holds(rt, alloc, new.crash(*word), 1, &PATH_EDGES);
+        holds(rt, new.crash(*word), 1, &PATH_EDGES);
     }
 }
 
 // Run by `./refuse-memory`, which refuses each allocation in turn.
 #[test]
 fn a_migration_without_memory_is_made_again(rt: HostRuntime) {
-    let alloc = rt.alloc();
     let rt = &rt;
-    let mut old = path(rt, alloc);
-    let mut new = blank(rt, alloc, NEW_LEN);
-    let mut answer = bring_over(alloc, &mut old, &mut new);
+    let mut old = path(rt);
+    let mut new = blank(rt, NEW_LEN);
+    let mut answer = bring_over(rt.alloc(), &mut old, &mut new);
     if answer.is_err() {
         same(rt, answer, Err(MigrateRefused::Memory), "without memory");
-        let mut before = blank(rt, alloc, NEW_LEN);
+        let mut before = blank(rt, NEW_LEN);
         same_bytes(rt, &mut new, &mut before, "the new device");
-        answer = bring_over(alloc, &mut old, &mut new);
+        answer = bring_over(rt.alloc(), &mut old, &mut new);
     }
     same(rt, answer, MOVED, "the path");
 }

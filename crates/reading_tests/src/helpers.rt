@@ -4,9 +4,14 @@ use disk_trait::{Disk, MemDisk};
 use journal::Entry;
 use layout_reader::Loaded;
 use migrate::{MigrateRefused, Moved};
-use std::alloc::Global;
+use std::alloc::AllocGlobal;
 use std::fmt::Debug;
 use std::process::Abort;
+
+// What a test stands on: what ends it, and memory.
+pub(crate) trait Host: Abort + AllocGlobal {}
+
+impl<R: Abort + AllocGlobal> Host for R {}
 
 // The bytes of a device of layout 1, and of one of layout 2.
 pub(crate) const OLD_LEN: usize = 2_371_584;
@@ -97,30 +102,24 @@ pub(crate) fn put(rt: &impl Abort, disk: &mut MemDisk, text: Text) {
 }
 
 // A disk of so many zeros.
-pub(crate) fn blank(rt: &impl Abort, alloc: Global, len: usize) -> MemDisk {
-    got(rt, test_doubles::blank(alloc, len))
+pub(crate) fn blank(rt: &impl Host, len: usize) -> MemDisk {
+    got(rt, test_doubles::blank(rt.alloc(), len))
 }
 
-// A disk of so many bytes: these texts, and zeros elsewhere.
-pub(crate) fn device(rt: &impl Abort, alloc: Global, len: usize, texts: &[Text]) -> MemDisk {
-    let mut disk = blank(rt, alloc, len);
+// A disk of so many bytes: these texts, and zeros elsewhere, all settled.
+pub(crate) fn settled(rt: &impl Host, len: usize, texts: &[Text]) -> MemDisk {
+    let mut disk = blank(rt, len);
     for text in texts {
         put(rt, &mut disk, *text);
     }
-    disk
-}
-
-// The same, all settled.
-pub(crate) fn settled(rt: &impl Abort, alloc: Global, len: usize, texts: &[Text]) -> MemDisk {
-    let mut disk = device(rt, alloc, len, texts);
     got(rt, disk.sync());
     disk
 }
 
 // The device of layout 1 with a path of five nodes.
-pub(crate) fn path(rt: &impl Abort, alloc: Global) -> MemDisk {
+pub(crate) fn path(rt: &impl Host) -> MemDisk {
     let texts: [Text; 3] = [(0, &FRONT), (FIRST_SLOT, &FIRST), (FIRST_AREA, &PATH)];
-    settled(rt, alloc, OLD_LEN, &texts)
+    settled(rt, OLD_LEN, &texts)
 }
 
 fn part(rt: &impl Abort, disk: &mut MemDisk, at: usize) -> [u8; 1024] {
@@ -141,12 +140,8 @@ pub(crate) fn same_bytes(rt: &impl Abort, one: &mut MemDisk, other: &mut MemDisk
 // Sees that a store has this count and these edges, and that no ticket is taken.
 pub(crate) fn has(rt: &impl Abort, store: &Store<MemDisk>, count: u64, edges: &[Edge]) {
     let graph = store.graph();
-    same(
-        rt,
-        (store.count(), graph.edges()),
-        (count, edges.len()),
-        "the store",
-    );
+    let found = (store.count(), graph.edges());
+    same(rt, found, (count, edges.len()), "the store");
     same(rt, store.starts(), [0; 64], "the tickets");
     for (a, b, weight) in edges {
         same(rt, graph.weight(*b, *a), Some(*weight), "an edge");
@@ -154,8 +149,8 @@ pub(crate) fn has(rt: &impl Abort, store: &Store<MemDisk>, count: u64, edges: &[
 }
 
 // Sees that a disk holds such a store of layout 2.
-pub(crate) fn holds(rt: &impl Abort, alloc: Global, disk: MemDisk, count: u64, edges: &[Edge]) {
-    let store = got(rt, Store::open(alloc, disk));
+pub(crate) fn holds(rt: &impl Host, disk: MemDisk, count: u64, edges: &[Edge]) {
+    let store = got(rt, Store::open(rt.alloc(), disk));
     has(rt, &store, count, edges);
 }
 

@@ -1,10 +1,6 @@
 // Images of layout 1 written by hand: what stands on them. What fronts tell is in conformance/fronts.txt.
-use crate::helpers::{
-    FRONT, NEWER, OF_FIRST, OF_NEWER, OLD_LEN, OLDER, Text, device, got, same, standing,
-};
+use crate::helpers::*;
 use layout_1::{Loaded, load};
-use std::alloc::Global;
-use std::process::Abort;
 
 // Gate, epoch 9, count 2, five nodes, one edge: 0 to 1 with weight 7.
 const HEAD: [u8; 31] = [
@@ -15,24 +11,23 @@ const HEAD: [u8; 31] = [
 const RECORD: [u8; 18] = [1, 0, 0, 0, 0x0c, 0, 1, 1, 1, 0, 1, 0, 2, 0, 0, 0, 3, 0];
 
 // What is loaded of the first slot, its record, and such a text where the second slot begins.
-fn loaded(rt: &impl Abort, alloc: Global, second: &[u8]) -> Loaded {
+fn loaded(rt: &impl Host, second: &[u8]) -> Loaded {
     let texts: [Text; 4] = [
         (0, &FRONT),
-        (4096, &HEAD),
-        (139_264, &RECORD),
-        (1_187_840, second),
+        (FIRST_SLOT, &HEAD),
+        (FIRST_AREA, &RECORD),
+        (SECOND_SLOT, second),
     ];
-    let mut disk = device(rt, alloc, OLD_LEN, &texts);
-    got(rt, load(alloc, &mut disk))
+    let mut disk = settled(rt, OLD_LEN, &texts);
+    got(rt, load(rt.alloc(), &mut disk))
 }
 
 #[test]
 fn loads_images_written_by_hand(rt: HostRuntime) {
-    let alloc = rt.alloc();
     let rt = &rt;
-    let l = loaded(rt, alloc, &OLDER);
+    let l = loaded(rt, &OLDER);
     same(rt, standing(&l), OF_FIRST, "the first slot");
-    let l = loaded(rt, alloc, &NEWER);
+    let l = loaded(rt, &NEWER);
     same(rt, standing(&l), OF_NEWER, "the newer slot");
     layout_1::standing_law();
     layout_1::layout_law();

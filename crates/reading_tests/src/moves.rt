@@ -1,8 +1,5 @@
 // What goes over.
-use crate::helpers::{
-    Answer, FIRST_AREA, FIRST_EDGES, FIRST_SLOT, NEW_LEN, OLD_LEN, SECOND_AREA, SECOND_SLOT, Text,
-    blank, got, holds, path, put, same, settled,
-};
+use crate::helpers::*;
 use checkpoint::{Store, format};
 use disk_trait::MemDisk;
 use migrate::{MigrateRefused, Moved, bring_over, migrate};
@@ -38,19 +35,18 @@ const RECORDS: [u8; 54] = [
 
 #[test]
 fn moves_a_rolled_device_over_what_was_there(rt: HostRuntime) {
-    let alloc = rt.alloc();
     let rt = &rt;
-    let mut old = path(rt, alloc);
+    let mut old = path(rt);
     put(rt, &mut old, (SECOND_SLOT, &ROLLED));
     put(rt, &mut old, (SECOND_AREA, &RECORDS));
     // a store of layout 2 with another network, and bytes of its own where the first journal begins
-    let mut new = blank(rt, alloc, NEW_LEN);
+    let mut new = blank(rt, NEW_LEN);
     got(rt, format(&mut new, 9));
     put(rt, &mut new, (532_480, &[1, 0, 0, 0, 21]));
-    let answer = migrate(alloc, &mut old, &mut new);
+    let answer = migrate(rt.alloc(), &mut old, &mut new);
     same(rt, answer, Ok(6), "a rolled device");
     let edges = [(0, 1, 9), (1, 2, 5), (3, 4, 1_000_000)];
-    holds(rt, alloc, new, 6, &edges);
+    holds(rt, new, 6, &edges);
 }
 
 // Puts the edges of the largest network of layout 1: those of nodes 0 to 3 to all greater ones, and ten of node 4.
@@ -112,16 +108,15 @@ fn edges_of(alloc: Global, disk: MemDisk) -> usize {
 
 #[test]
 fn keeps_to_the_limits_of_layout_1(rt: HostRuntime) {
-    let alloc = rt.alloc();
     let rt = &rt;
     let texts: [Text; 2] = [(0, b"TZNODE01\x10\x00"), (FIRST_SLOT, &LARGEST)];
-    let mut old = settled(rt, alloc, OLD_LEN, &texts);
+    let mut old = settled(rt, OLD_LEN, &texts);
     put_most_edges(rt, &mut old);
     for (record, want, edges) in &LAST {
         put(rt, &mut old, (FIRST_AREA, record.as_slice()));
-        let mut new = blank(rt, alloc, NEW_LEN);
-        let answer = bring_over(alloc, &mut old, &mut new);
+        let mut new = blank(rt, NEW_LEN);
+        let answer = bring_over(rt.alloc(), &mut old, &mut new);
         same(rt, answer, *want, "the largest network");
-        same(rt, edges_of(alloc, new), *edges, "its edges");
+        same(rt, edges_of(rt.alloc(), new), *edges, "its edges");
     }
 }

@@ -41,24 +41,22 @@ fn same<T: Copy + PartialEq + Debug>(rt: &impl Abort, found: T, want: T, name: &
 fn read(rt: &impl Abort, alloc: Global, text: &str) -> Vec<RehearsalLine>
     ensures { IsRehearsal result.items }
 {
-    if let Ok(Ok(lines)) = read_rehearsal(alloc, text) {
-        return lines;
+    for _ in 0..2 {
+        if let Ok(Ok(lines)) = read_rehearsal(alloc, text) {
+            return lines;
+        }
     }
-    match read_rehearsal(alloc, text) {
-        Ok(Ok(lines)) => lines,
-        _ => panic!(rt; "no rehearsal: {text}"),
-    }
+    panic!(rt; "no rehearsal: {text}")
 }
 
 // The rehearsal that a text asks for.
 fn asked(rt: &impl Abort, alloc: Global, text: &str) -> Rehearsal {
-    if let Ok(Some(rehearsal)) = lives_of(alloc, read(rt, alloc, text)) {
-        return rehearsal;
+    for _ in 0..2 {
+        if let Ok(Some(rehearsal)) = lives_of(alloc, read(rt, alloc, text)) {
+            return rehearsal;
+        }
     }
-    match lives_of(alloc, read(rt, alloc, text)) {
-        Ok(Some(rehearsal)) => rehearsal,
-        _ => panic!(rt; "nothing is asked for: {text}"),
-    }
+    panic!(rt; "nothing is asked for: {text}")
 }
 
 // Sees what is printed of a rehearsal.

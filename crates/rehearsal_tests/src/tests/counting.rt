@@ -15,8 +15,7 @@ fn lists_the_stops_of_calls(rt: HostRuntime) {
 // The write of three bytes has four stops. The sync, which fails, has one, and so has the read.
 #[test]
 fn notes_the_calls_since_it_was_armed(rt: HostRuntime) {
-    let alloc = rt.alloc();
-    let rt = &rt;
+    let (rt, alloc) = (&rt, rt.alloc());
     let mut disk = Watched::new(alloc, got(rt, MemDisk::new(alloc, 16)));
     got(rt, disk.sync());
     disk.arm(Plan::Fail(2));
@@ -41,8 +40,7 @@ fn widest() -> Call {
 // A crash leaves what was noted. A count that is too great for its type is the greatest number.
 #[test]
 fn notes_the_calls_over_a_crash(rt: HostRuntime) {
-    let alloc = rt.alloc();
-    let rt = &rt;
+    let (rt, alloc) = (&rt, rt.alloc());
     let mut disk = Watched::new(alloc, got(rt, MemDisk::new(alloc, 16)));
     got(rt, disk.sync());
     let disk = disk.crash(0);
@@ -60,8 +58,7 @@ fn notes_the_calls_over_a_crash(rt: HostRuntime) {
 // Seven trials of four kinds, of which each two differ in one number.
 #[test]
 fn counts_kinds_in_order(rt: HostRuntime) {
-    let alloc = rt.alloc();
-    let rt = &rt;
+    let (rt, alloc) = (&rt, rt.alloc());
     let kinds = [
         kind(1, 2, 3),
         kind(1, 2, 4),

@@ -30,41 +30,41 @@ crash taken=1 settled=1 postings=2
 opened count=2 edges=1 tickets=1 0:2
 ";
 
-// Whether a line says that memory ran out.
-fn names_memory(told: &str) -> bool {
-    for line in told.lines() {
-        if line == "out of memory"
-            || line == "not opened memory"
-            || line == "not committed memory"
-        {
-            return true;
-        }
+// The answer of a call, which is made again where memory was refused.
+fn again<T, F: FnMut() -> Result<T, AllocError>>(rt: &impl Abort, mut call: F) -> T
+    requires { F.IsAlwaysCallable call }
+{
+    match call() {
+        Ok(answer) => answer,
+        Err(_) => got(rt, call()),
     }
-    false
 }
 
-// What is told; `None` where memory ran out.
-fn given(rt: &impl Abort, told: Result<String, RehearseRefused>) -> Option<String> {
+// Whether a line says that memory ran out.
+fn names_memory(told: &str) -> bool {
+    told.lines().any(|line| {
+        line == "out of memory" || line == "not opened memory" || line == "not committed memory"
+    })
+}
+
+// What is told; an error where memory ran out.
+fn given(rt: &impl Abort, told: Result<String, RehearseRefused>) -> Result<String, AllocError> {
     match told {
-        Ok(told) if names_memory(told.as_str()) => None,
-        Ok(told) => Some(told),
-        Err(RehearseRefused::Memory) => None,
+        Ok(told) if names_memory(told.as_str()) => Err(AllocError),
+        Ok(told) => Ok(told),
+        Err(RehearseRefused::Memory) => Err(AllocError),
         Err(RehearseRefused::Nodes) => panic!(rt; "nodes"),
     }
 }
 
-fn told_of(rt: &impl Abort, alloc: Global) -> Option<String> {
+fn told_of(rt: &impl Abort, alloc: Global) -> Result<String, AllocError> {
     given(rt, rehearse(alloc, &asked(rt, alloc, TEXT)))
 }
 
 #[test]
 fn a_rehearsal_once_memory_is_there(rt: HostRuntime) {
-    let alloc = rt.alloc();
-    let rt = &rt;
-    let told = match told_of(rt, alloc) {
-        Some(told) => told,
-        None => got(rt, told_of(rt, alloc).ok_or("no memory")),
-    };
+    let (rt, alloc) = (&rt, rt.alloc());
+    let told = again(rt, || told_of(rt, alloc));
     same(rt, told.as_str(), WANT, "with memory");
 }
 
@@ -79,45 +79,31 @@ fn noted(rt: &impl Abort, alloc: Global) -> Result<Vec<Call>, AllocError> {
 
 #[test]
 fn stops_and_tables_once_memory_is_there(rt: HostRuntime) {
-    let alloc = rt.alloc();
-    let rt = &rt;
-    let calls = match noted(rt, alloc) {
-        Ok(calls) => calls,
-        Err(_) => got(rt, noted(rt, alloc)),
-    };
+    let (rt, alloc) = (&rt, rt.alloc());
+    let calls = again(rt, || noted(rt, alloc));
     let want = [Call::Sync; 3];
     same(rt, calls.as_slice(), want.as_slice(), "the calls");
-    let stops = match stops_of(alloc, &calls, 2) {
-        Ok(stops) => stops,
-        Err(_) => got(rt, stops_of(alloc, &calls, 2)),
-    };
+    let stops = again(rt, || stops_of(alloc, &calls, 2));
     let want = [1, 2].map(|call| Stop { call, put: 0 });
     same(rt, stops.as_slice(), want.as_slice(), "the stops");
     let kind = kind(0, 1, 1);
-    let table = match table_of(alloc, &[kind, kind]) {
-        Ok(table) => table,
-        Err(_) => got(rt, table_of(alloc, &[kind, kind])),
-    };
+    let table = again(rt, || table_of(alloc, &[kind, kind]));
     let want = [KindCount { kind, trials: 2 }];
     same(rt, table.as_slice(), want.as_slice(), "the table");
 }
 
-// What is told of the first two stops; `None` where memory ran out.
-fn tried(rt: &impl Abort, alloc: Global) -> Option<String> {
+// What is told of the first two stops; an error where memory ran out.
+fn tried(rt: &impl Abort, alloc: Global) -> Result<String, AllocError> {
     let mut rehearsal = asked(rt, alloc, ONE_CHANGE);
     given(rt, try_every_stop(alloc, &mut rehearsal, 2, |_: usize| {}))
 }
 
 #[test]
 fn trials_once_memory_is_there(rt: HostRuntime) {
-    let alloc = rt.alloc();
-    let rt = &rt;
+    let (rt, alloc) = (&rt, rt.alloc());
     let want = "stops=2 of=31
 found=0 acknowledged=0 opened=0 stops=2
 ";
-    let told = match tried(rt, alloc) {
-        Some(told) => told,
-        None => got(rt, tried(rt, alloc).ok_or("no memory")),
-    };
+    let told = again(rt, || tried(rt, alloc));
     same(rt, told.as_str(), want, "with memory");
 }

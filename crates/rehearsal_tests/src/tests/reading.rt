@@ -18,12 +18,9 @@ life sessions=1 places=1 words=none crash=1";
 
 #[test]
 fn reads_each_kind_of_line(rt: HostRuntime) {
-    let alloc = rt.alloc();
-    let rt = &rt;
+    let (rt, alloc) = (&rt, rt.alloc());
     let lines = read(rt, alloc, EACH_KIND);
-    let mut nodes = Vec::new(alloc);
-    got(rt, nodes.push(0u16));
-    got(rt, nodes.push(4u16));
+    let nodes = got(rt, vec![in alloc; 0u16, 4]);
     let ops = [Op::Add(0, 1, 1), Op::Set(0, 1, 2), Op::Cut(0, 1)];
     let want = [
         RehearsalLine::Device { nodes: 5 },
@@ -83,8 +80,7 @@ fn long_text(rt: &impl Abort, alloc: Global) -> String {
 
 #[test]
 fn reads_a_long_rehearsal(rt: HostRuntime) {
-    let alloc = rt.alloc();
-    let rt = &rt;
+    let (rt, alloc) = (&rt, rt.alloc());
     let lines = read(rt, alloc, long_text(rt, alloc).as_str());
     assert_eq!(rt; lines.len(), 100_002);
     let last = RehearsalLine::Submit {
@@ -98,8 +94,7 @@ fn reads_a_long_rehearsal(rt: HostRuntime) {
 // The last line alone isn't understood, so all lines before it are.
 #[test]
 fn names_the_last_line_of_a_long_rehearsal(rt: HostRuntime) {
-    let alloc = rt.alloc();
-    let rt = &rt;
+    let (rt, alloc) = (&rt, rt.alloc());
     let mut text = long_text(rt, alloc);
     got(rt, text.push_str("sumbit 0 1 cut:0:1"));
     let Ok(Err(refused)) = read_rehearsal(alloc, text.as_str()) else {

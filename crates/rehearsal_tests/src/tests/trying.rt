@@ -10,8 +10,7 @@ use super::*;
 // A commit of one change: the record, a sync, the gate, and a sync.
 #[test]
 fn lists_the_calls_of_the_last_life(rt: HostRuntime) {
-    let alloc = rt.alloc();
-    let rt = &rt;
+    let (rt, alloc) = (&rt, rt.alloc());
     let mut rehearsal = asked(rt, alloc, ONE_CHANGE);
     assert!(rt; rehearsal.lives.len() >= 2);
     let calls = got(rt, calls_of_last(alloc, &mut rehearsal));
@@ -33,8 +32,7 @@ fn trials() -> [StopFound; 3] {
 
 #[test]
 fn tries_one_stop_after_another(rt: HostRuntime) {
-    let alloc = rt.alloc();
-    let rt = &rt;
+    let (rt, alloc) = (&rt, rt.alloc());
     let mut rehearsal = asked(rt, alloc, ONE_CHANGE);
     assert!(rt; rehearsal.lives.len() >= 2);
     let wanted = trials();
@@ -46,8 +44,7 @@ fn tries_one_stop_after_another(rt: HostRuntime) {
 
 #[test]
 fn tries_one_stop(rt: HostRuntime) {
-    let alloc = rt.alloc();
-    let rt = &rt;
+    let (rt, alloc) = (&rt, rt.alloc());
     for want in &trials() {
         let mut rehearsal = asked(rt, alloc, ONE_CHANGE);
         assert!(rt; rehearsal.lives.len() >= 2);
