@@ -1,17 +1,13 @@
 // Each of the ten calls of the longest commit, failing and stopping in turn: it closes the other slot, rolls into it, and writes its
 // record there. And calls of one that finds that slot closed.
-use crate::helpers::{SECOND_SLOT, commit_at_last, fails, give, last_tickets, left, opened, same};
+use crate::helpers::*;
 use crate::rolls::{LACKS, full, full_but, give_sized};
 use disk_trait::{CrashDisk, MemDisk, Plan};
 use graph_edits::Op;
 use group_commit::Desk;
-use std::alloc::Global;
-use std::process::Abort;
 use test_doubles::CRASH_WORDS;
 
-// What is there before the group and behind it: how many changes, the last tickets, and the weight of the edge 0-1.
-type Found = (u64, [u64; 3], Option<u32>);
-
+// What is there before the group and behind it.
 const BEFORE: Found = (6784, [6783, 1, 0], Some(1));
 
 const BEHIND: Found = (6806, [6805, 1, 0], Some(1));
@@ -60,26 +56,26 @@ const CALLS: [(u8, Plan, [bool; 5]); 32] = [
     (0, Plan::Fail(8), [false, true, false, false, true]),
 ];
 
-// What a full device opens to whose other slot has this gate, a group of 22 changes having met this plan, after a crash by this word.
-fn found(rt: &impl Abort, alloc: Global, full: &[u8], gate: u8, plan: Plan, word: u64) -> Found {
-    let disk = full_but(rt, alloc, full, SECOND_SLOT, &[gate]);
-    let mut desk = opened(rt, alloc, disk);
+// A desk over a full device whose other slot has this gate, to which a group of 22 changes was given.
+fn given(rt: &impl Host, full: &[u8], gate: u8, plan: Plan) -> Desk<MemDisk> {
+    let mut desk = opened(rt, full_but(rt, full, SECOND_SLOT, &[gate]));
     desk.arm(plan);
     give_sized(rt, &mut desk, &LACKS);
-    fails(rt, alloc, &mut desk, 22, 6784);
-    let desk = opened(rt, alloc, desk.into_store().into_disk().crash(word));
-    let (count, weight) = left(&desk);
-    let tickets = last_tickets(&desk);
-    goes_on(rt, alloc, desk, count);
-    (count, tickets, weight)
+    desk
 }
 
-// A change that is committed behind the crash is there after another opening.
-fn goes_on(rt: &impl Abort, alloc: Global, desk: Desk<MemDisk>, count: u64) {
-    let mut desk = desk;
+// Where this plan meets the group, the device opens to this after a crash by this word. A change that is committed then is there after
+// another opening.
+fn goes_on(rt: &impl Host, desk: Desk<MemDisk>, word: u64, want: Found, case: (u8, Plan)) {
+    let mut desk = opened(rt, desk.into_store().into_disk().crash(word));
+    let after = (case, word, found(&desk));
+    same(rt, after, (case, word, want), "a crash");
     give(rt, &mut desk, 63, 1, &[Op::Add(1, 2, 5)]);
-    same(rt, commit_at_last(rt, alloc, &mut desk), Ok(1), "goes on");
-    let desk = opened(rt, alloc, desk.into_store().into_disk());
+    same(rt, commit_at_last(rt, &mut desk), Ok(1), "goes on");
+    has_one_more(rt, reopened(rt, desk), want.0);
+}
+
+fn has_one_more(rt: &impl Host, desk: Desk<MemDisk>, count: u64) {
     let found = (desk.store().count(), desk.store().graph().weight(1, 2));
     same(rt, found, (count.wrapping_add(1), Some(5)), "opened");
 }
@@ -87,36 +83,26 @@ fn goes_on(rt: &impl Abort, alloc: Global, desk: Desk<MemDisk>, count: u64) {
 // No call is left out, and none is made besides: ten where the other slot is open, and eight where it is closed.
 #[test]
 fn a_rolling_commit_makes_ten_calls_or_eight(rt: HostRuntime) {
-    let alloc = rt.alloc();
     let rt = &rt;
-    let before = full(rt, alloc);
+    let before = full(rt);
     for (gate, call) in [(1, 11), (0, 9)].iter() {
-        let disk = full_but(rt, alloc, &before, SECOND_SLOT, &[*gate]);
-        let mut desk = opened(rt, alloc, disk);
-        desk.arm(Plan::Fail(*call));
-        give_sized(rt, &mut desk, &LACKS);
-        same(rt, commit_at_last(rt, alloc, &mut desk), Ok(22), "rolled");
-        let desk = opened(rt, alloc, desk.into_store().into_disk().crash(256));
-        same(rt, left(&desk), (6806, Some(1)), "rolled");
-        same(rt, last_tickets(&desk), [6805, 1, 0], "rolled");
+        let mut desk = given(rt, &before, *gate, Plan::Fail(*call));
+        same(rt, commit_at_last(rt, &mut desk), Ok(22), "rolled");
+        let disk = desk.into_store().into_disk().crash(256);
+        ends(rt, opened(rt, disk), BEHIND, "rolled");
     }
 }
 
 #[test]
 fn each_call_of_a_rolling_commit_fails_and_stops(rt: HostRuntime) {
-    let alloc = rt.alloc();
     let rt = &rt;
-    let before = full(rt, alloc);
+    let before = full(rt);
     for (gate, plan, there) in &CALLS {
         for (word, there) in CRASH_WORDS.iter().zip(there.iter()) {
             let state = if *there { BEHIND } else { BEFORE };
-            let after = found(rt, alloc, &before, *gate, *plan, *word);
-            same(
-                rt,
-                (*gate, *plan, *word, after),
-                (*gate, *plan, *word, state),
-                "a crash",
-            );
+            let mut desk = given(rt, &before, *gate, *plan);
+            fails(rt, &mut desk, 22, 6784);
+            goes_on(rt, desk, *word, state, (*gate, *plan));
         }
     }
 }

@@ -1,8 +1,5 @@
 // Groups of requests: their marks, their bytes, their tickets, and a want of memory.
-use crate::helpers::{
-    Ask, JOURNAL, accepted, commit, commit_at_last, formatted, fresh, give, got, last_tickets,
-    left, marks_are, opened, refused, request, same, settle, whole,
-};
+use crate::helpers::*;
 use checkpoint::WORN_LIMIT;
 use disk_trait::{CrashDisk, Plan};
 use generations::Mark;
@@ -19,7 +16,6 @@ fn refusals_have_their_numbers(rt: HostRuntime) {
 
 #[test]
 fn commits_a_group_as_one_record(rt: HostRuntime) {
-    let alloc = rt.alloc();
     let rt = &rt;
     // The second of two sessions is refused; or both are accepted, with four ops.
     let (first, again) = ([Op::Add(0, 1, 1)], [Op::Add(1, 0, 2)]);
@@ -46,8 +42,8 @@ fn commits_a_group_as_one_record(rt: HostRuntime) {
         ),
     ];
     for (asked, marks, number, weight, bytes) in &table {
-        let mut desk = fresh(rt, alloc);
-        settle(rt, alloc, &mut desk, asked, *number, marks);
+        let mut desk = fresh(rt);
+        settle(rt, &mut desk, asked, *number, marks);
         same(rt, left(&desk), (*number as u64, *weight), "the store");
         let mut disk = desk.into_store().into_disk();
         let found = got(rt, has_spelled(&mut disk, JOURNAL, bytes));
@@ -57,12 +53,11 @@ fn commits_a_group_as_one_record(rt: HostRuntime) {
 
 #[test]
 fn writes_nothing_where_all_are_refused(rt: HostRuntime) {
-    let alloc = rt.alloc();
     let rt = &rt;
     // Any call of the device would fail.
-    let mut disk = formatted(rt, alloc);
-    let before = whole(rt, alloc, &mut disk);
-    let mut desk = opened(rt, alloc, disk);
+    let mut disk = formatted(rt);
+    let before = whole(rt, &mut disk);
+    let mut desk = opened(rt, disk);
     desk.arm(Plan::Stop(1, 0));
     let half = [Op::Add(0, 1, 7), Op::Cut(2, 3)];
     let want = [
@@ -70,28 +65,21 @@ fn writes_nothing_where_all_are_refused(rt: HostRuntime) {
         refused(1, 1, 0, Code::NoEdge),
     ];
     let asked: [Ask; 2] = [(0, 1, &half), (1, 1, &[Op::Cut(0, 1)])];
-    settle(rt, alloc, &mut desk, &asked, 0, &want);
+    settle(rt, &mut desk, &asked, 0, &want);
     same(rt, left(&desk), (0, None), "the store");
     // And the next group does call it.
     give(rt, &mut desk, 0, 2, &[Op::Add(0, 1, 7)]);
-    let answer = commit(rt, alloc, &mut desk);
+    let answer = commit(rt, &mut desk);
     same(rt, answer, Err(DeskRefused::Device), "the next group");
     let mut disk = desk.into_store().into_disk();
     disk.arm(Plan::None);
-    let now = whole(rt, alloc, &mut disk);
-    same(
-        rt,
-        now.as_slice() == before.as_slice(),
-        true,
-        "nothing is written",
-    );
+    stays(rt, &mut disk, &before);
 }
 
 #[test]
 fn marks_stand_in_the_order_of_the_requests(rt: HostRuntime) {
-    let alloc = rt.alloc();
     let rt = &rt;
-    let mut desk = fresh(rt, alloc);
+    let mut desk = fresh(rt);
     let asked: [Ask; 6] = [
         (7, 3, &[Op::Add(2, 1, 4)]),
         (0, 9, &[Op::Add(0, 5, 1)]),
@@ -108,10 +96,10 @@ fn marks_stand_in_the_order_of_the_requests(rt: HostRuntime) {
         refused(1, 2, 0, Code::BadWeight),
         accepted(0, 10, 3),
     ];
-    settle(rt, alloc, &mut desk, &asked, 3, &want);
+    settle(rt, &mut desk, &asked, 3, &want);
     // The next group's counts go on from these.
     let next: [Ask; 1] = [(2, 1, &[Op::Add(4, 3, 2)])];
-    settle(rt, alloc, &mut desk, &next, 1, &[accepted(2, 1, 4)]);
+    settle(rt, &mut desk, &next, 1, &[accepted(2, 1, 4)]);
 }
 
 // Session and ticket of a request, and whether the desk may take it.
@@ -130,35 +118,29 @@ const NEXT: [(u8, u64, bool); 10] = [
 
 #[test]
 fn takes_only_what_is_next(rt: HostRuntime) {
-    let alloc = rt.alloc();
     let rt = &rt;
-    let mut desk = fresh(rt, alloc);
+    let mut desk = fresh(rt);
     // A ticket that is refused doesn't stand in the store, nor does one that is held.
     let asked: [Ask; 2] = [(0, 5, &[Op::Add(0, 1, 1)]), (1, 7, &[Op::Cut(2, 3)])];
     let want = [accepted(0, 5, 1), refused(1, 7, 0, Code::NoEdge)];
-    settle(rt, alloc, &mut desk, &asked, 1, &want);
+    settle(rt, &mut desk, &asked, 1, &want);
     give(rt, &mut desk, 63, 2, &[Op::Cut(0, 1)]);
     same(rt, last_tickets(&desk), [5, 0, 0], "last tickets");
     let starts = desk.starts();
     same(rt, [starts[0], starts[1], starts[63]], [5, 0, 0], "starts");
     for (session, ticket, want) in &NEXT {
-        let may = desk.is_next(&request(rt, *session, *ticket, &[Op::Cut(0, 1)]));
-        same(
-            rt,
-            (*session, *ticket, may),
-            (*session, *ticket, *want),
-            "next",
-        );
+        let (session, ticket) = (*session, *ticket);
+        let may = desk.is_next(&request(rt, session, ticket, &[Op::Cut(0, 1)]));
+        same(rt, (session, ticket, may), (session, ticket, *want), "next");
     }
-    let desk = opened(rt, alloc, desk.into_store().into_disk());
+    let desk = reopened(rt, desk);
     same(rt, last_tickets(&desk), [5, 0, 0], "opened");
 }
 
 #[test]
 fn commits_as_many_as_it_holds(rt: HostRuntime) {
-    let alloc = rt.alloc();
     let rt = &rt;
-    let mut desk = fresh(rt, alloc);
+    let mut desk = fresh(rt);
     give(rt, &mut desk, 0, 1, &[Op::Add(0, 1, 1)]);
     let mut want = [accepted(0, 1, 1); 64];
     for session in 1..64u8 {
@@ -166,22 +148,20 @@ fn commits_as_many_as_it_holds(rt: HostRuntime) {
         want[session as usize] = accepted(session, 1, session as u64 + 1);
     }
     same(rt, desk.held(), MOST_HELD, "held");
-    settle(rt, alloc, &mut desk, &[], 64, &want);
-    let desk = opened(rt, alloc, desk.into_store().into_disk());
+    settle(rt, &mut desk, &[], 64, &want);
+    let desk = reopened(rt, desk);
     same(rt, left(&desk), (64, Some(63)), "opened");
 }
 
 // Where an allocation is refused (rt try --test --fail-alloc N), the same call gives the same answer later.
 #[test]
 fn commits_later_what_had_no_memory(rt: HostRuntime) {
-    let alloc = rt.alloc();
     let rt = &rt;
-    let mut desk = fresh(rt, alloc);
+    let mut desk = fresh(rt);
     give(rt, &mut desk, 0, 1, &[Op::Add(0, 1, 1)]);
     give(rt, &mut desk, 1, 1, &[Op::Add(1, 0, 2)]);
     give(rt, &mut desk, 2, 1, &[Op::Add(1, 2, 3)]);
-    let answer = commit_at_last(rt, alloc, &mut desk);
-    same(rt, answer, Ok(2), "settled");
+    same(rt, commit_at_last(rt, &mut desk), Ok(2), "settled");
     let want = [
         accepted(0, 1, 1),
         refused(1, 1, 0, Code::EdgeThere),

@@ -5,9 +5,14 @@ use generations::{Mark, Posting, Verdict};
 use graph_edits::{Change, Code, Op};
 use group_commit::{Desk, DeskRefused, MOST_HELD};
 use requests::Request;
-use std::alloc::Global;
+use std::alloc::AllocGlobal;
 use std::fmt::Debug;
 use std::process::Abort;
+
+// What a test stands on: what ends it, and memory.
+pub(crate) trait Host: Abort + AllocGlobal {}
+
+impl<R: Abort + AllocGlobal> Host for R {}
 
 // Where slot 0 begins, where it has its epoch and its count, where its journal begins, and where slot 1 does.
 pub(crate) const FIRST_SLOT: usize = 4096;
@@ -37,18 +42,22 @@ pub(crate) fn got<T, E: Drop>(rt: &impl Abort, answer: Result<T, E>) -> T {
 }
 
 // A disk formatted for five nodes.
-pub(crate) fn formatted(rt: &impl Abort, alloc: Global) -> MemDisk {
-    got(rt, test_doubles::formatted(alloc, 5))
+pub(crate) fn formatted(rt: &impl Host) -> MemDisk {
+    got(rt, test_doubles::formatted(rt.alloc(), 5))
 }
 
 // A desk over a disk.
-pub(crate) fn opened(rt: &impl Abort, alloc: Global, disk: MemDisk) -> Desk<MemDisk> {
-    Desk::new(test_doubles::opened(alloc, disk).ok().expect(rt, "a store"))
+pub(crate) fn opened(rt: &impl Host, disk: MemDisk) -> Desk<MemDisk> {
+    Desk::new(
+        test_doubles::opened(rt.alloc(), disk)
+            .ok()
+            .expect(rt, "a store"),
+    )
 }
 
 // A desk over a fresh device for five nodes.
-pub(crate) fn fresh(rt: &impl Abort, alloc: Global) -> Desk<MemDisk> {
-    opened(rt, alloc, formatted(rt, alloc))
+pub(crate) fn fresh(rt: &impl Host) -> Desk<MemDisk> {
+    opened(rt, formatted(rt))
 }
 
 pub(crate) fn request(rt: &impl Abort, session: u8, ticket: u64, ops: &[Op]) -> Request {
@@ -79,13 +88,9 @@ fn give_all(rt: &impl Abort, desk: &mut Desk<MemDisk>, asked: &[Ask]) {
     }
 }
 
-pub(crate) fn commit(
-    rt: &impl Abort,
-    alloc: Global,
-    desk: &mut Desk<MemDisk>,
-) -> Result<usize, DeskRefused> {
+pub(crate) fn commit(rt: &impl Host, desk: &mut Desk<MemDisk>) -> Result<usize, DeskRefused> {
     assert!(rt; desk.held() > 0);
-    desk.commit(alloc)
+    desk.commit(rt.alloc())
 }
 
 pub(crate) fn accepted(session: u8, ticket: u64, count: u64) -> Mark {
@@ -114,15 +119,14 @@ pub(crate) fn marks_are(rt: &impl Abort, desk: &Desk<MemDisk>, want: &[Mark]) {
 
 // Gives a group and commits it: so many are accepted, these are the marks, and nothing is held. They are told then.
 pub(crate) fn settle(
-    rt: &impl Abort,
-    alloc: Global,
+    rt: &impl Host,
     desk: &mut Desk<MemDisk>,
     asked: &[Ask],
     number: usize,
     want: &[Mark],
 ) {
     give_all(rt, desk, asked);
-    let answer = commit(rt, alloc, desk);
+    let answer = commit(rt, desk);
     same(rt, (answer, desk.held()), (Ok(number), 0), "settled");
     marks_are(rt, desk, want);
     same(rt, desk.paid().is_some(), true, "told");
@@ -137,17 +141,11 @@ pub(crate) fn byte_at(rt: &impl Abort, disk: &mut MemDisk, at: usize) -> u8 {
 }
 
 // The bytes of a disk from one place up to another; read once more where memory was refused.
-pub(crate) fn bytes_of(
-    rt: &impl Abort,
-    alloc: Global,
-    disk: &mut MemDisk,
-    from: usize,
-    end: usize,
-) -> Vec<u8> {
+pub(crate) fn bytes_of(rt: &impl Host, disk: &mut MemDisk, from: usize, end: usize) -> Vec<u8> {
     assert!(rt; from <= end && end <= disk.len());
-    let mut bytes = match vec![in alloc; 0; end - from] {
+    let mut bytes = match vec![in rt.alloc(); 0; end - from] {
         Ok(bytes) => bytes,
-        Err(_) => match vec![in alloc; 0; end - from] {
+        Err(_) => match vec![in rt.alloc(); 0; end - from] {
             Ok(bytes) => bytes,
             Err(_) => panic!(rt; "no memory"),
         },
@@ -157,13 +155,19 @@ pub(crate) fn bytes_of(
 }
 
 // Every byte of a disk.
-pub(crate) fn whole(rt: &impl Abort, alloc: Global, disk: &mut MemDisk) -> Vec<u8> {
-    bytes_of(rt, alloc, disk, 0, disk.len())
+pub(crate) fn whole(rt: &impl Host, disk: &mut MemDisk) -> Vec<u8> {
+    bytes_of(rt, disk, 0, disk.len())
+}
+
+// Sees that a disk has these bytes.
+pub(crate) fn stays(rt: &impl Host, disk: &mut MemDisk, before: &[u8]) {
+    let now = whole(rt, disk);
+    same(rt, now.as_slice() == before, true, "nothing is written");
 }
 
 // A disk of these bytes, all settled.
-pub(crate) fn copied(rt: &impl Abort, alloc: Global, bytes: &[u8]) -> MemDisk {
-    let mut disk = got(rt, test_doubles::blank(alloc, DEVICE_LEN));
+pub(crate) fn copied(rt: &impl Host, bytes: &[u8]) -> MemDisk {
+    let mut disk = got(rt, test_doubles::blank(rt.alloc(), DEVICE_LEN));
     got(rt, test_doubles::put(&mut disk, 0, bytes));
     got(rt, disk.sync());
     disk
@@ -179,49 +183,46 @@ pub(crate) fn last_tickets(desk: &Desk<MemDisk>) -> [u64; 3] {
     [desk.resume(0), desk.resume(1), desk.resume(63)]
 }
 
+// How many changes are there, the last tickets, and the weight of the edge 0-1.
+pub(crate) type Found = (u64, [u64; 3], Option<u32>);
+
+pub(crate) fn found(desk: &Desk<MemDisk>) -> Found {
+    let (count, weight) = left(desk);
+    (count, last_tickets(desk), weight)
+}
+
+// The same of a desk that is used no more.
+pub(crate) fn ends(rt: &impl Abort, desk: Desk<MemDisk>, want: Found, name: &str) {
+    same(rt, found(&desk), want, name)
+}
+
+// A desk over the disk of another one.
+pub(crate) fn reopened(rt: &impl Host, desk: Desk<MemDisk>) -> Desk<MemDisk> {
+    opened(rt, desk.into_store().into_disk())
+}
+
 // Commits, and once more where memory was refused: the state of before stays, and nothing is due.
 pub(crate) fn commit_at_last(
-    rt: &impl Abort,
-    alloc: Global,
+    rt: &impl Host,
     desk: &mut Desk<MemDisk>,
 ) -> Result<usize, DeskRefused> {
-    let before = (desk.held(), desk.store().count(), last_tickets(desk));
-    let answer = commit(rt, alloc, desk);
+    let before = (desk.held(), found(desk), true);
+    let answer = commit(rt, desk);
     if answer != Err(DeskRefused::Memory) {
         return answer;
     }
-    let left = (desk.held(), desk.store().count(), last_tickets(desk));
-    same(rt, (left, desk.due().is_none()), (before, true), "left");
-    commit(rt, alloc, desk)
+    let left = (desk.held(), found(desk), desk.due().is_none());
+    same(rt, left, before, "left");
+    commit(rt, desk)
 }
 
 // A commit fails: that the device is down is due once, the group stays held, and the next commit is refused.
-pub(crate) fn fails(
-    rt: &impl Abort,
-    alloc: Global,
-    desk: &mut Desk<MemDisk>,
-    held: usize,
-    count: u64,
-) {
-    same(
-        rt,
-        commit(rt, alloc, desk),
-        Err(DeskRefused::Device),
-        "fails",
-    );
+pub(crate) fn fails(rt: &impl Host, desk: &mut Desk<MemDisk>, held: usize, count: u64) {
+    let left = (held, count);
+    same(rt, commit(rt, desk), Err(DeskRefused::Device), "fails");
     same(rt, matches!(desk.paid(), Some(Posting::Down)), true, "told");
-    same(
-        rt,
-        (desk.held(), desk.store().count()),
-        (held, count),
-        "left",
-    );
-    same(rt, commit(rt, alloc, desk), Err(DeskRefused::Down), "again");
+    same(rt, (desk.held(), desk.store().count()), left, "left");
+    same(rt, commit(rt, desk), Err(DeskRefused::Down), "again");
     same(rt, desk.due().is_some(), false, "told once");
-    same(
-        rt,
-        (desk.held(), desk.store().count()),
-        (held, count),
-        "left",
-    );
+    same(rt, (desk.held(), desk.store().count()), left, "left");
 }

@@ -1,13 +1,9 @@
 // A full journal: the roll before a commit, a want of memory, and a worn store.
-use crate::helpers::{
-    COUNT, EPOCH, FIRST_SLOT, SECOND_SLOT, byte_at, bytes_of, commit_at_last, copied, fresh, give,
-    got, last_tickets, left, opened, same, whole,
-};
+use crate::helpers::*;
 use checkpoint::WORN_LIMIT;
 use disk_trait::{Disk, MemDisk};
 use graph_edits::Op;
 use group_commit::{Desk, DeskRefused};
-use std::alloc::Global;
 use std::process::Abort;
 
 // How many ops the changes of a group have that just fits behind 106 full ones, and of one that needs a byte more.
@@ -31,8 +27,8 @@ pub(crate) fn give_sized(rt: &impl Abort, desk: &mut Desk<MemDisk>, sizes: &[usi
 }
 
 // A device whose journal holds 106 groups of 64 changes of 16 ops.
-pub(crate) fn full(rt: &impl Abort, alloc: Global) -> Vec<u8> {
-    let mut desk = fresh(rt, alloc);
+pub(crate) fn full(rt: &impl Host) -> Vec<u8> {
+    let mut desk = fresh(rt);
     let mut first = [Op::Set(0, 1, 1); 16];
     first[0] = Op::Add(0, 1, 1);
     give(rt, &mut desk, 1, 1, &first);
@@ -41,71 +37,54 @@ pub(crate) fn full(rt: &impl Abort, alloc: Global) -> Vec<u8> {
         if group > 0 {
             give_sized(rt, &mut desk, &[16; 64]);
         }
-        same(rt, commit_at_last(rt, alloc, &mut desk), Ok(64), "a group");
+        same(rt, commit_at_last(rt, &mut desk), Ok(64), "a group");
         desk.paid();
     }
     same(rt, desk.store().count(), 6784, "full");
-    whole(rt, alloc, &mut desk.into_store().into_disk())
+    whole(rt, &mut desk.into_store().into_disk())
 }
 
-// Gives changes of these sizes to a desk over a full device and commits them: whether the other slot is open then, and what the first
-// one holds is as it was; the count, the last tickets and the weight of the edge 0-1 of the desk that is opened then.
-fn committed(
-    rt: &impl Abort,
-    alloc: Global,
-    before: &[u8],
-    sizes: &[usize],
-) -> (u8, bool, (u64, Option<u32>), [u64; 3]) {
-    let mut desk = opened(rt, alloc, copied(rt, alloc, before));
+// Gives changes of these sizes to a desk over a full device and commits them: the gate of the other slot then, whether what the first one
+// holds is as it was, and what the desk has that is opened then.
+fn committed(rt: &impl Host, before: &[u8], sizes: &[usize]) -> (u8, bool, Found) {
+    let mut desk = opened(rt, copied(rt, before));
     give_sized(rt, &mut desk, sizes);
-    let answer = commit_at_last(rt, alloc, &mut desk);
+    let answer = commit_at_last(rt, &mut desk);
     same(rt, answer, Ok(sizes.len()), "committed");
     let mut disk = desk.into_store().into_disk();
     let gate = byte_at(rt, &mut disk, SECOND_SLOT);
-    let now = bytes_of(rt, alloc, &mut disk, FIRST_SLOT, SECOND_SLOT);
+    let now = bytes_of(rt, &mut disk, FIRST_SLOT, SECOND_SLOT);
     let stays = before.get(FIRST_SLOT..SECOND_SLOT) == Some(now.as_slice());
-    let desk = opened(rt, alloc, disk);
-    (gate, stays, left(&desk), last_tickets(&desk))
+    (gate, stays, found(&opened(rt, disk)))
 }
 
 #[test]
 fn rolls_where_the_journal_has_no_room(rt: HostRuntime) {
-    let alloc = rt.alloc();
     let rt = &rt;
     // 320 ops in 21 changes end the journal at its last byte but one. 319 ops in 22 changes need one byte more: what is there stays.
-    let before = full(rt, alloc);
-    let fits = committed(rt, alloc, &before, &FITS);
-    same(rt, fits, (0, false, (6805, Some(1)), [6804, 1, 0]), "fits");
-    let rolls = committed(rt, alloc, &before, &LACKS);
-    same(rt, rolls, (1, true, (6806, Some(1)), [6805, 1, 0]), "rolls");
+    let before = full(rt);
+    let fits = committed(rt, &before, &FITS);
+    same(rt, fits, (0, false, (6805, [6804, 1, 0], Some(1))), "fits");
+    let rolls = committed(rt, &before, &LACKS);
+    same(rt, rolls, (1, true, (6806, [6805, 1, 0], Some(1))), "rolls");
 }
 
 // Run by `./refuse-memory`, which refuses each of the last allocations in turn. Behind the second commit there is none.
 #[test]
 fn rolls_later_what_had_no_memory(rt: HostRuntime) {
-    let alloc = rt.alloc();
     let rt = &rt;
-    let before = full(rt, alloc);
-    let mut desk = opened(rt, alloc, copied(rt, alloc, &before));
+    let before = full(rt);
+    let mut desk = opened(rt, copied(rt, &before));
     give_sized(rt, &mut desk, &LACKS);
-    let answer = commit_at_last(rt, alloc, &mut desk);
-    same(rt, answer, Ok(22), "rolled");
-    same(rt, left(&desk), (6806, Some(1)), "rolled");
-    same(rt, last_tickets(&desk), [6805, 1, 0], "rolled");
+    same(rt, commit_at_last(rt, &mut desk), Ok(22), "rolled");
+    same(rt, found(&desk), (6806, [6805, 1, 0], Some(1)), "rolled");
     let mut disk = desk.into_store().into_disk();
-    let gate = byte_at(rt, &mut disk, SECOND_SLOT);
-    same(rt, gate, 1, "the second slot");
+    same(rt, byte_at(rt, &mut disk, SECOND_SLOT), 1, "the other slot");
 }
 
 // A full device with another byte at a place.
-pub(crate) fn full_but(
-    rt: &impl Abort,
-    alloc: Global,
-    full: &[u8],
-    at: usize,
-    bytes: &[u8],
-) -> MemDisk {
-    let mut disk = copied(rt, alloc, full);
+pub(crate) fn full_but(rt: &impl Host, full: &[u8], at: usize, bytes: &[u8]) -> MemDisk {
+    let mut disk = copied(rt, full);
     assert!(rt; bytes.len() <= 8 && at <= SECOND_SLOT && SECOND_SLOT + 8 <= disk.len());
     got(rt, disk.write_at(at, bytes));
     disk
@@ -120,12 +99,13 @@ const WORN: [(usize, u64, u64); 3] = [
 ];
 
 // Gives changes to a desk over this disk and commits them, which has to be refused as worn: so many are held then, and the count.
-fn worn(rt: &impl Abort, alloc: Global, disk: MemDisk, count: u64) -> MemDisk {
-    let mut desk = opened(rt, alloc, disk);
+fn worn(rt: &impl Host, disk: MemDisk, count: u64) -> MemDisk {
+    let mut desk = opened(rt, disk);
     give_sized(rt, &mut desk, &LACKS);
-    let answer = commit_at_last(rt, alloc, &mut desk);
-    same(rt, answer, Err(DeskRefused::Worn), "worn");
-    same(rt, (desk.held(), desk.store().count()), (22, count), "left");
+    let answer = commit_at_last(rt, &mut desk);
+    let worn = Err(DeskRefused::Worn);
+    same(rt, (answer, desk.held()), (worn, 22), "worn");
+    same(rt, desk.store().count(), count, "left");
     let still = (desk.due().is_none(), desk.store().is_down());
     same(rt, still, (true, false), "left");
     desk.into_store().into_disk()
@@ -133,19 +113,11 @@ fn worn(rt: &impl Abort, alloc: Global, disk: MemDisk, count: u64) -> MemDisk {
 
 #[test]
 fn wears_out_at_the_last_epoch_and_the_last_count(rt: HostRuntime) {
-    let alloc = rt.alloc();
     let rt = &rt;
-    let before = full(rt, alloc);
+    let before = full(rt);
     for (at, number, count) in &WORN {
-        let mut disk = full_but(rt, alloc, &before, *at, &number.to_be_bytes());
-        let old = whole(rt, alloc, &mut disk);
-        let mut disk = worn(rt, alloc, disk, *count);
-        let now = whole(rt, alloc, &mut disk);
-        same(
-            rt,
-            now.as_slice() == old.as_slice(),
-            true,
-            "nothing is written",
-        );
+        let mut disk = full_but(rt, &before, *at, &number.to_be_bytes());
+        let old = whole(rt, &mut disk);
+        stays(rt, &mut worn(rt, disk, *count), &old);
     }
 }
