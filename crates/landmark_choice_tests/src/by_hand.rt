@@ -18,8 +18,7 @@ const STAR: [Edge; 8] = [
 /// Of the words of a start those below the bound draw, the smallest first; and nodes with more neighbours come first by degree.
 #[test]
 fn begins_with_a_start(rt: HostRuntime) {
-    let alloc = rt.alloc();
-    let rt = &rt;
+    let (rt, alloc) = (&rt, rt.alloc());
     let graph = graph_of(rt, alloc, 9, &STAR);
     let words = [7u64, u64::MAX, 5, 6, u64::MAX, 3, 4, 9, 8];
     let limits = Limits {

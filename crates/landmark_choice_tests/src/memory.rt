@@ -6,8 +6,7 @@ use sample_networks::PATH;
 
 #[test]
 fn chooses_after_a_want_of_memory(rt: HostRuntime) {
-    let alloc = rt.alloc();
-    let rt = &rt;
+    let (rt, alloc) = (&rt, rt.alloc());
     let graph = graph_of(rt, alloc, 5, &PATH);
     let limits = Limits {
         most_entries: 8,

@@ -36,10 +36,9 @@ impl Plain {
     }
 
     fn place(&self, node: u16, other: u16) -> usize {
-        match self.places.get(node as usize) {
-            Some(row) => row.get(other as usize).copied().unwrap_or(usize::MAX),
-            None => usize::MAX,
-        }
+        let row = self.places.get(node as usize);
+        let place = row.and_then(|row| row.get(other as usize));
+        place.copied().unwrap_or(usize::MAX)
     }
 
     // Whether a node is nearer to another one than every landmark.
@@ -47,14 +46,10 @@ impl Plain {
         let Some(distance) = self.graph.distance(node, other) else {
             return false;
         };
-        for landmark in landmarks {
-            if let Some(there) = self.graph.distance(node, *landmark) {
-                if there <= distance {
-                    return false;
-                }
-            }
-        }
-        true
+        landmarks.iter().all(|landmark| {
+            let there = self.graph.distance(node, *landmark);
+            there.is_none_or(|there| distance < there)
+        })
     }
 
     // Whether a node has an entry for another one, of those that are counted.
@@ -64,29 +59,23 @@ impl Plain {
 
     // How many of those a node has.
     fn count(&self, node: u16, landmarks: &[u16], limits: Limits) -> u64 {
-        let mut count: u64 = 0;
-        for other in 0..self.graph.nodes {
-            if self.has(node, other, landmarks, limits) {
-                count = count.saturating_add(1);
-            }
-        }
-        count
+        let others = 0..self.graph.nodes;
+        others
+            .filter(|other| self.has(node, *other, landmarks, limits))
+            .count() as u64
     }
 
     // The entries and members of a node's table.
     fn size(&self, node: u16, landmarks: &[u16], limits: Limits) -> u64 {
-        let mut size = self.count(node, landmarks, limits);
-        for landmark in landmarks {
-            if self.graph.distance(node, *landmark).is_some() {
-                size = size.saturating_add(1);
-            }
-        }
-        for other in 0..self.graph.nodes {
-            if self.has(other, node, landmarks, limits) {
-                size = size.saturating_add(1);
-            }
-        }
-        size
+        let others = 0..self.graph.nodes;
+        let members = others
+            .filter(|other| self.has(*other, node, landmarks, limits))
+            .count();
+        let landmarks_there = landmarks
+            .iter()
+            .filter(|at| self.graph.distance(node, **at).is_some());
+        let more = landmarks_there.count().saturating_add(members) as u64;
+        self.count(node, landmarks, limits).saturating_add(more)
     }
 
     /// What these landmarks come to.
@@ -178,14 +167,9 @@ impl Plain {
         let mut best = self.measure(&landmarks, limits);
         let mut kept = landmarks.len();
         while_more(self, &mut landmarks, limits, &mut best, &mut kept)?;
-        let mut chosen = Vec::new(alloc);
-        for node in 0..self.graph.nodes {
-            let mut first = landmarks.iter().take(kept);
-            if first.any(|landmark| *landmark == node) {
-                chosen.push(node)?;
-            }
-        }
-        Ok((chosen, best))
+        landmarks.truncate(kept);
+        landmarks.sort()?;
+        Ok((landmarks, best))
     }
 }
 
@@ -216,11 +200,7 @@ fn while_more(
 // The square root of a number, rounded up.
 fn root_above(number: u64) -> u64 {
     let root = number.isqrt();
-    if root.saturating_mul(root) < number {
-        root.saturating_add(1)
-    } else {
-        root
-    }
+    root.saturating_add((root.saturating_mul(root) < number) as u64)
 }
 
 // The place of each node by its distance in a row, and then by its number.
