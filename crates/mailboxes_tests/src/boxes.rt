@@ -3,9 +3,8 @@ use mailboxes::Mailbox;
 
 #[test]
 fn gives_in_the_order_of_the_puts(rt: HostRuntime) {
-    let alloc = rt.alloc();
     let rt = &rt;
-    let mailbox: Mailbox<u8> = Mailbox::new(alloc);
+    let mailbox: Mailbox<u8> = Mailbox::new(rt.alloc());
     assert!(rt; mailbox.put(rt, 7).is_ok());
     assert!(rt; mailbox.put(rt, 5).is_ok());
     assert!(rt; mailbox.take(rt) == Some(7));
@@ -16,9 +15,8 @@ fn gives_in_the_order_of_the_puts(rt: HostRuntime) {
 
 #[test]
 fn gives_what_waits_once_it_is_closed(rt: HostRuntime) {
-    let alloc = rt.alloc();
     let rt = &rt;
-    let mailbox: Mailbox<u8> = Mailbox::new(alloc);
+    let mailbox: Mailbox<u8> = Mailbox::new(rt.alloc());
     assert!(rt; mailbox.put(rt, 7).is_ok());
     mailbox.close(rt);
     assert!(rt; mailbox.put(rt, 5).is_ok());
@@ -28,9 +26,8 @@ fn gives_what_waits_once_it_is_closed(rt: HostRuntime) {
 
 #[test]
 fn drops_what_waits_once_it_is_shut(rt: HostRuntime) {
-    let alloc = rt.alloc();
     let rt = &rt;
-    let mailbox: Mailbox<u8> = Mailbox::new(alloc);
+    let mailbox: Mailbox<u8> = Mailbox::new(rt.alloc());
     assert!(rt; mailbox.put(rt, 7).is_ok());
     mailbox.shut(rt);
     assert!(rt; mailbox.put(rt, 5).is_ok());

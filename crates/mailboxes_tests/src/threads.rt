@@ -1,5 +1,5 @@
 // A buffer between threads: two put, one takes, and nobody sleeps for ever.
-use crate::orders::{Card, buffer};
+use crate::orders::Card;
 use mailboxes::{Mailbox, ReorderBuffer};
 use std::alloc::Global;
 use std::sync::{Arc, Wait};
@@ -54,7 +54,7 @@ fn handed<R: Threads + Wait + Copy + Send + 'static>(
     alloc: Global,
     in_lots: bool,
 ) -> Option<u64> {
-    let cards = Arc::new(alloc, buffer(alloc, WINDOW).ok()?).ok()?;
+    let cards = Arc::new(alloc, ReorderBuffer::new(alloc, WINDOW).ok()?).ok()?;
     let (even, odd) = (Arc::try_clone(&cards).ok()?, Arc::try_clone(&cards).ok()?);
     let taker = Arc::try_clone(&cards).ok()?;
     let even = thread::spawn(&rt, move || puts(&rt, &even, 0)).ok()?;
@@ -71,13 +71,10 @@ fn handed<R: Threads + Wait + Copy + Send + 'static>(
 }
 
 #[test]
-fn hands_each_card_over_at_once(rt: HostRuntime) {
-    assert!(rt; handed(rt, rt.alloc(), false) == Some(CARDS));
-}
-
-#[test]
-fn hands_cards_over_in_lots(rt: HostRuntime) {
-    assert!(rt; handed(rt, rt.alloc(), true) == Some(CARDS));
+fn hands_each_card_over_at_once_and_in_lots(rt: HostRuntime) {
+    for in_lots in [false, true] {
+        assert!(rt; handed(rt, rt.alloc(), in_lots) == Some(CARDS));
+    }
 }
 
 // Takes numbers until none comes any more, and adds them.

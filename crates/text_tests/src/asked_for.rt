@@ -2,16 +2,7 @@
 // In a line of words a bar stands between each two.
 use crate::helpers::{got, same};
 use command_line::{Task, parse_task};
-use std::alloc::{AllocError, Global};
 use value_syntax::LandmarkWords;
-
-fn words_of(alloc: Global, line: &str) -> Result<Vec<&str>, AllocError> {
-    let mut words = Vec::new(alloc);
-    for word in line.split('|') {
-        words.push(word)?;
-    }
-    Ok(words)
-}
 
 // Words, and the editors, forwarders and places that they ask for, and after how many rounds a change is in a generation at the latest.
 const SERVICES: [(&str, (u8, u8, u8), Option<u16>); 6] = [
@@ -41,8 +32,7 @@ const SERVICES: [(&str, (u8, u8, u8), Option<u16>); 6] = [
 
 #[test]
 fn services(rt: HostRuntime) {
-    let alloc = rt.alloc();
-    let rt = &rt;
+    let (rt, alloc) = (&rt, rt.alloc());
     for (line, (editors, forwarders, places), live) in &SERVICES {
         let task = Task::Serve {
             device: "d",
@@ -52,7 +42,7 @@ fn services(rt: HostRuntime) {
             live: *live,
             words: LandmarkWords::Greatest,
         };
-        let words = got(rt, words_of(alloc, line));
+        let words: Vec<&str> = got(rt, line.split('|').collect(alloc));
         let found = parse_task(alloc, &words) == Ok(task);
         same(rt, found, true, line);
     }

@@ -1,11 +1,10 @@
 // Lines and faults as texts that no command of conformance/ prints. Expected texts are those of docs/FORMATS.md.
-use crate::helpers::same;
+use crate::helpers::{got, same};
 use command_output::{
     BrokenLine, Ended, Fault, FaultWriter, TablesLine, WatchedWriter, print_line, tell,
 };
 use std::alloc::AllocError;
 use std::fmt::Display;
-use std::io;
 use std::process::Abort;
 
 fn expect_line<R: AllocGlobal + Abort, L: Display + Drop>(rt: &R, line: L, text: &str) {
@@ -45,25 +44,23 @@ const FAULTS: [(Fault, &str, u8); 7] = [
 ];
 
 #[test]
-fn texts_of_faults(rt: HostRuntime) -> io::Result<()> {
-    let alloc = rt.alloc();
-    let rt = &rt;
+fn texts_of_faults(rt: HostRuntime) {
+    let (rt, alloc) = (&rt, rt.alloc());
     for (fault, text, status) in &FAULTS {
-        let (fault, text, status) = (*fault, *text, *status);
-        let shown = format!(in alloc; "{fault}")?;
+        let (fault, text) = (*fault, *text);
+        let shown = got(rt, format!(in alloc; "{fault}"));
         same(rt, shown.as_str(), text, "its text");
-        same(rt, fault.status(), status, text);
-        let line = format!(in alloc; "tznode: {}\n", shown.as_str())?;
+        same(rt, fault.status(), *status, text);
+        let line = got(rt, format!(in alloc; "tznode: {text}\n"));
         let mut err = Vec::new(alloc);
-        tell(&mut err, fault)?;
+        got(rt, tell(&mut err, fault));
         same(rt, err.as_slice(), line.as_str().as_bytes(), text);
         let mut watched = Vec::new(alloc);
-        WatchedWriter::new(&mut watched).tell(fault)?;
+        got(rt, WatchedWriter::new(&mut watched).tell(fault));
         same(rt, watched.as_slice(), line.as_str().as_bytes(), text);
         let mut short = [0; 8];
         assert!(rt; WatchedWriter::new(&mut short[..]).tell(fault).is_err());
         same(rt, short.as_slice(), "tznode: ".as_bytes(), text);
     }
     same(rt, Fault::from(AllocError), Fault::Memory, "no memory");
-    Ok(())
 }

@@ -29,8 +29,7 @@ const NODES: [(&str, Option<u16>); 3] = [("0", Some(0)), ("65535", Some(65_535))
 
 #[test]
 fn greatest_numbers(rt: HostRuntime) {
-    let alloc = rt.alloc();
-    let rt = &rt;
+    let (rt, alloc) = (&rt, rt.alloc());
     for (text, want) in &OPS {
         same(rt, got(rt, op(alloc, text)), *want, text);
     }
@@ -105,8 +104,7 @@ fn words_of_five(rt: &impl Abort, alloc: Global, text: &str) -> Vec<u64> {
 
 #[test]
 fn words_of_nodes(rt: HostRuntime) {
-    let alloc = rt.alloc();
-    let rt = &rt;
+    let (rt, alloc) = (&rt, rt.alloc());
     for (text, want) in &WORDS {
         let words = words_of_five(rt, alloc, text);
         same(rt, words.as_slice(), want.as_slice(), text);
