@@ -70,29 +70,20 @@ fn edges_of(rt: &impl Abort, alloc: Global, store: &Store<MemDisk>) -> Vec<Edge>
 fn taken(rt: &impl Abort, alloc: Global, text: &str, writing: Writing) -> Vec<Edge> {
     assert_eq!(rt; got(rt, form_of(alloc, text)), writing);
     let nodes = got(rt, read_nodes(alloc, text, writing)).map(|nodes| nodes.count);
-    assert_eq!(rt;
-        nodes,
-        if writing == Writing::Relations {
-            None
-        } else {
-            Some("60")
-        }
-    );
-    let first = if writing == Writing::Dimacs { 1 } else { 0 };
-    let Ok(rows) = got(rt, read_rows(alloc, text, writing)) else {
-        panic!(rt; "no rows");
+    let (first, said) = match writing {
+        Writing::Dimacs => (1, Some("60")),
+        Writing::Relations => (0, None),
+        _ => (0, Some("60")),
     };
+    assert_eq!(rt; nodes, said);
+    let rows = got(rt, got(rt, read_rows(alloc, text, writing)));
     stored(rt, alloc, &rows, first)
 }
 
 // The same of rows, where the first node is written so.
 fn stored(rt: &impl Abort, alloc: Global, rows: &[Row], first: u16) -> Vec<Edge> {
-    let Ok(read) = got(rt, by_numbers(alloc, rows, first, 59)) else {
-        panic!(rt; "no numbers");
-    };
-    let Ok(once) = got(rt, each_once(alloc, &read, false)) else {
-        panic!(rt; "two weights");
-    };
+    let read = got(rt, got(rt, by_numbers(alloc, rows, first, 59)));
+    let once = got(rt, got(rt, each_once(alloc, &read, false)));
     let mut store = new_store(rt, alloc, 60);
     let mut came = Came { edges: 0 };
     let once = added(rt, alloc, &store, &once);
@@ -100,28 +91,32 @@ fn stored(rt: &impl Abort, alloc: Global, rows: &[Row], first: u16) -> Vec<Edge>
     edges_of(rt, alloc, &store)
 }
 
+// Sees that these edges, ascending, are read again of the others, which are the same, as a list, as arcs and as links.
+fn expect_back(rt: &impl Abort, alloc: Global, edges: &[Edge], others: &[Edge]) {
+    let list = got(rt, edge_list(alloc, 60, others, &[])).expect(rt, "a list");
+    let read = taken(rt, alloc, list.as_str(), BY_WORDS);
+    assert_eq!(rt; read.as_slice(), edges, "a list");
+    let arcs = got(rt, dimacs_text(alloc, 60, others));
+    let read = taken(rt, alloc, arcs.as_str(), Writing::Dimacs);
+    assert_eq!(rt; read.as_slice(), edges, "arcs");
+    let links = got(rt, node_link_text(alloc, 60, others, &[]));
+    let links = got(rt, got(rt, read_links(alloc, links.as_str())));
+    let read = stored(rt, alloc, &links.rows, 0);
+    assert_eq!(rt; read.as_slice(), edges, "links");
+}
+
+// Relations have no weights.
 #[test]
 fn drawn_networks_come_in_and_go_out(rt: HostRuntime) {
     let (rt, alloc) = (&rt, rt.alloc());
     for seed in 0..12 {
         let mut edges = drawn(rt, alloc, seed);
         let others = turned(rt, alloc, &edges);
-        let list = got(rt, edge_list(alloc, 60, &others, &[])).expect(rt, "a list");
-        let read = taken(rt, alloc, list.as_str(), BY_WORDS);
-        assert_eq!(rt; read.as_slice(), edges.as_slice(), "seed {seed}");
-        let arcs = got(rt, dimacs_text(alloc, 60, &others));
-        let read = taken(rt, alloc, arcs.as_str(), Writing::Dimacs);
-        assert_eq!(rt; read.as_slice(), edges.as_slice(), "seed {seed}");
-        let links = got(rt, node_link_text(alloc, 60, &others, &[]));
-        let Ok(links) = got(rt, read_links(alloc, links.as_str())) else {
-            panic!(rt; "no links");
-        };
-        let read = stored(rt, alloc, &links.rows, 0);
-        assert_eq!(rt; read.as_slice(), edges.as_slice(), "seed {seed}");
-        let text = relations(rt, alloc, &others);
+        expect_back(rt, alloc, &edges, &others);
         for edge in edges.iter_mut() {
             edge.weight = 1;
         }
+        let text = relations(rt, alloc, &others);
         let read = taken(rt, alloc, text.as_str(), Writing::Relations);
         assert_eq!(rt; read.as_slice(), edges.as_slice(), "seed {seed}");
     }
@@ -144,21 +139,15 @@ const ARCS: [(&str, Result<&str, (usize, usize)>, &str); 5] = [
 fn arcs_of_one_edge(rt: HostRuntime) {
     let (rt, alloc) = (&rt, rt.alloc());
     for (text, want, least) in &ARCS {
-        let Ok(rows) = got(rt, read_rows(alloc, *text, Writing::Dimacs)) else {
-            panic!(rt; "{text}");
-        };
-        let Ok(arcs) = got(rt, by_numbers(alloc, &rows, 1, 2)) else {
-            panic!(rt; "{text}");
-        };
+        let rows = got(rt, got(rt, read_rows(alloc, *text, Writing::Dimacs)));
+        let arcs = got(rt, got(rt, by_numbers(alloc, &rows, 1, 2)));
         match got(rt, each_once(alloc, &arcs, false)) {
             Ok(edges) => {
                 assert_eq!(rt; Ok(told(rt, alloc, &edges).as_str()), *want, "{text}");
             }
             Err(clash) => assert_eq!(rt; Err((clash.first, clash.second)), *want, "{text}"),
         }
-        let Ok(edges) = got(rt, each_once(alloc, &arcs, true)) else {
-            panic!(rt; "{text}");
-        };
+        let edges = got(rt, got(rt, each_once(alloc, &arcs, true)));
         assert_eq!(rt; told(rt, alloc, &edges).as_str(), *least, "{text}");
     }
 }

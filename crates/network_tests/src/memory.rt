@@ -4,7 +4,7 @@
 ghost use Rattle.std.specs.Prelude.{◌≡◌, false};
 ghost use Rattle.checkpoint.specs.StoreWords.{is_down};
 
-use crate::helpers::{BY_WORDS, Came, edge, has_up_to, new_store};
+use crate::helpers::{BY_WORDS, Came, edge, got, has_up_to, new_store};
 use checkpoint::Store;
 use disk_trait::MemDisk;
 use edge_lists::{
@@ -12,7 +12,7 @@ use edge_lists::{
     read_rows,
 };
 use network_import::{ImportRefused, import, incoming_edges};
-use std::alloc::Global;
+use std::alloc::{AllocError, Global};
 use std::process::Abort;
 
 // Three edges of three nodes.
@@ -48,37 +48,27 @@ fn an_import_after_a_want_of_memory(rt: HostRuntime) {
     assert_eq!(rt; store.count(), 1);
 }
 
+/// The answer of a call, which is made again where memory was refused.
+fn again<T, F: FnMut() -> Result<T, AllocError>>(rt: &impl Abort, mut call: F) -> T
+    requires { F.IsAlwaysCallable call }
+{
+    match call() {
+        Ok(answer) => answer,
+        Err(_) => got(rt, call()),
+    }
+}
+
 #[test]
 fn a_text_after_a_want_of_memory(rt: HostRuntime) {
-    let alloc = rt.alloc();
+    let (rt, alloc) = (&rt, rt.alloc());
     let text = "a,b,km\n# roads\n0 1 5\n\"0\",x";
-    let rows = match read_rows(alloc, text, BY_WORDS) {
-        Ok(rows) => Ok(rows),
-        Err(_) => read_rows(alloc, text, BY_WORDS),
-    };
-    match rows {
-        Ok(Ok(rows)) => assert_eq!(rt; rows.len(), 2),
-        _ => panic!(rt; "not read"),
-    }
-    let links = match read_links(alloc, LINKS) {
-        Ok(links) => Ok(links),
-        Err(_) => read_links(alloc, LINKS),
-    };
-    match links {
-        Ok(Ok(links)) => assert_eq!(rt; (links.labels.len(), links.rows.len()), (2, 1)),
-        _ => panic!(rt; "not read"),
-    }
-    let refused = match read_rows(alloc, "0 1 5\n0", BY_WORDS) {
-        Ok(refused) => Ok(refused),
-        Err(_) => read_rows(alloc, "0 1 5\n0", BY_WORDS),
-    };
-    match refused {
-        Ok(Err(refused)) => {
-            let (number, form) = (2, Form::Fields);
-            assert_eq!(rt; refused, LineRefused { number, form });
-        }
-        _ => panic!(rt; "read"),
-    }
+    let rows = got(rt, again(rt, || read_rows(alloc, text, BY_WORDS)));
+    assert_eq!(rt; rows.len(), 2);
+    let links = got(rt, again(rt, || read_links(alloc, LINKS)));
+    assert_eq!(rt; (links.labels.len(), links.rows.len()), (2, 1));
+    let refused = again(rt, || read_rows(alloc, "0 1 5\n0", BY_WORDS)).err();
+    let (number, form) = (2, Form::Fields);
+    assert_eq!(rt; refused, Some(LineRefused { number, form }));
 }
 
 const TWO_LINKS: &str =
@@ -88,18 +78,6 @@ const LINKS: &str =
     "{\"nodes\":[{\"id\":\"a\"},{\"id\":1}],\"links\":[{\"source\":\"a\",\"target\":1}]}";
 
 const LIST: &str = "1 2 5\n\n4 0 6";
-
-// The rows of the list.
-fn rows_of(rt: &impl Abort, alloc: Global) -> Vec<Row> {
-    let rows = match read_rows(alloc, LIST, BY_WORDS) {
-        Ok(rows) => Ok(rows),
-        Err(_) => read_rows(alloc, LIST, BY_WORDS),
-    };
-    match rows {
-        Ok(Ok(rows)) => rows,
-        _ => panic!(rt; "not read"),
-    }
-}
 
 // The names of a text.
 fn names_of<'a>(rt: &impl Abort, alloc: Global, text: &'a str) -> Names<'a> {
@@ -128,7 +106,7 @@ fn taken<'a>(rt: &impl Abort, alloc: Global, names: &mut Names<'a>, rows: &'a [R
 #[test]
 fn names_after_a_want_of_memory(rt: HostRuntime) {
     let alloc = rt.alloc();
-    let rows = rows_of(&rt, alloc);
+    let rows = got(&rt, again(&rt, || read_rows(alloc, LIST, BY_WORDS)));
     let mut names = names_of(&rt, alloc, "0\n1");
     let edges = taken(&rt, alloc, &mut names, &rows);
     let want = [edge(1, 1, 2, 5), edge(3, 3, 0, 6)];
@@ -145,32 +123,12 @@ fn names_after_a_want_of_memory(rt: HostRuntime) {
 
 #[test]
 fn numbers_after_a_want_of_memory(rt: HostRuntime) {
-    let alloc = rt.alloc();
-    let rows = rows_of(&rt, alloc);
-    let found = match by_numbers(alloc, &rows, 0, 4) {
-        Ok(found) => Ok(found),
-        Err(_) => by_numbers(alloc, &rows, 0, 4),
-    };
-    let Ok(Ok(edges)) = found else {
-        panic!(rt; "no numbers");
-    };
-    let text = match edge_list(alloc, 3, &edges, &["a", "b"]) {
-        Ok(text) => Ok(text),
-        Err(_) => edge_list(alloc, 3, &edges, &["a", "b"]),
-    };
-    let links = match node_link_text(alloc, 1, &edges, &["a"]) {
-        Ok(links) => Ok(links),
-        Err(_) => node_link_text(alloc, 1, &edges, &["a"]),
-    };
-    match links {
-        Ok(links) => assert_eq!(rt; links.as_str(), TWO_LINKS),
-        Err(_) => panic!(rt; "not written"),
-    }
-    match text {
-        Ok(text) => assert_eq!(rt;
-            text.as_deref(),
-            Some("# nodes=3\n# a\n# b\n# 2\nb 2 5\n4 a 6\n")
-        ),
-        Err(_) => panic!(rt; "not written"),
-    }
+    let (rt, alloc) = (&rt, rt.alloc());
+    let rows = got(rt, again(rt, || read_rows(alloc, LIST, BY_WORDS)));
+    let edges = got(rt, again(rt, || by_numbers(alloc, &rows, 0, 4)));
+    let text = again(rt, || edge_list(alloc, 3, &edges, &["a", "b"]));
+    let links = again(rt, || node_link_text(alloc, 1, &edges, &["a"]));
+    assert_eq!(rt; links.as_str(), TWO_LINKS);
+    let want = "# nodes=3\n# a\n# b\n# 2\nb 2 5\n4 a 6\n";
+    assert_eq!(rt; text.as_deref(), Some(want));
 }
