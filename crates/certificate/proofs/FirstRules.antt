@@ -1,22 +1,7 @@
 -- The rules of Shape, Edges, Parents, Strict, Nearest and Directories, as what they say of each node and each entry.
-use Rattle.std.proofs.Common.{◌≡◌, ◌+◌, ◌<◌, ◌≤◌, ◌⊎◌, inl, inr, ℕ, true, false, sym, refl, ap, subst, ◌∙◌, arith, [], get_or, ◌≢◌}
-use Rattle.std.specs.Prelude.{Option, Some, None, IsSome, is_some, MatchOption, ◌↔◌}
-use Rattle.std.specs.List.{All}
-use Rattle.std.specs.List.Sorted.{IsStrictlyIncreasing}
-use Rattle.std.proofs.lemmas.Bool.{both_ways, cases_eq, false_from_ne_true}
-use Rattle.std.proofs.lemmas.Option.{MatchOption-at_none, MatchOption-at_some}
-use Rattle.std.proofs.lemmas.List.Elements.{All-contains}
-use Rattle.schemes.specs.declared.parts.Parts.{Parts}
-use Rattle.schemes.specs.Entry.{Entry}
-use Rattle.landmarks.specs.declared.near.Near.{Near}
-use Rattle.graph_edits.specs.Edges.{Network, IsSound, weight_in, neighbours_of}
-use Rattle.graph_edits.specs.Laws.{All-neighbours_of, Contains-neighbours_of}
-use Rattle.schemes.specs.Tables.{tables, entries_at, directory_at, nodes_of}
-use Rattle.schemes.specs.Checks.{IsShaped, IsClosed, HasParents, IsStrict, IsNearestThere, HasDirectories}
-use Rattle.schemes.proofs.Basics.Walks.{symmetric}
-use Rattle.certificate.specs.Entries.{EachEntry, IsFramed, IsNodeFramed, IsEntryShaped, HasOwn, HasOrderAt, HasParentAt, IsClosedAt, IsClosedOver, IsTightAt, IsTightOver, IsStrictAt, IsNearestAt, IsThere, IsNoNearer, HasDirectoryAt, IsListedRight, IsListedBack}
-use Rattle.schemes.proofs.Basics.Options.{is_there, not_none, same_value}
-use Rattle.schemes.proofs.Serving.CheckedLaw.{first_is_listed}
+use Rattle.certificate.proofs.Words.{◌≡◌, ◌+◌, ◌<◌, ◌≤◌, ◌⊎◌, inl, inr, ℕ, true, false, sym, refl, ap, subst, ◌∙◌, arith, [], get_or, ◌≢◌, Option, Some, None, IsSome, is_some, MatchOption, ◌↔◌, All, IsStrictlyIncreasing, both_ways, cases_eq, false_from_ne_true, MatchOption-at_none, MatchOption-at_some, All-contains, Parts, Entry}
+use Rattle.certificate.proofs.Words.{Near, Network, IsSound, weight_in, neighbours_of, All-neighbours_of, Contains-neighbours_of, tables, entries_at, directory_at, nodes_of, IsShaped, IsClosed, HasParents, IsStrict, IsNearestThere, HasDirectories, symmetric, EachEntry, IsFramed, IsNodeFramed, IsEntryShaped, HasOwn, HasOrderAt}
+use Rattle.certificate.proofs.Words.{HasParentAt, IsClosedAt, IsClosedOver, IsTightAt, IsTightOver, IsStrictAt, IsNearestAt, IsThere, IsNoNearer, HasDirectoryAt, IsListedRight, IsListedBack, is_there, not_none, same_value, first_is_listed}
 use Rattle.certificate.proofs.LookUps.{all_listed, anywhere, found_has, found_at, listed_at, inside, value_inside, by_look_up}
 
 -- ---- Shape

@@ -1,10 +1,9 @@
+pub mod Words
 pub mod Found
 pub mod LookUps
 pub mod FirstRules
-pub mod Verdict
 pub mod Ranges
 pub mod LabelLemmas
-pub mod ClimbLemmas
 pub mod RowLemmas
 pub mod Rules
 pub mod TreeLemmas

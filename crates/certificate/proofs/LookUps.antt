@@ -1,25 +1,8 @@
 -- What stands in a list of entries is what a look-up finds, where roots ascend.
-use Rattle.std.proofs.Common.{◌≡◌, ◌<◌, ◌≤◌, ◌==◌, ◌+◌, ℕ, zero, suc, ◌⊎◌, inl, inr, cond, sym, refl, ap, subst, arith, List, [], ◌∷◌, length, get_or}
-use Rattle.std.specs.Prelude.{Option, Some, None, IsSome, is_some, slice_index, ◌↔◌}
-use Rattle.std.specs.List.{All}
-use Rattle.std.specs.List.Sorted.{IsStrictlyIncreasing}
+use Rattle.certificate.proofs.Words.{◌≡◌, ◌<◌, ◌≤◌, ◌==◌, ◌+◌, ℕ, zero, suc, ◌⊎◌, inl, inr, cond, sym, refl, ap, subst, arith, List, [], ◌∷◌, length, get_or, Option, Some, None, IsSome, is_some, slice_index, ◌↔◌, All, IsStrictlyIncreasing, cases_eq, cases_lt, cond_both, eqb-true, eq-eqb, get_or-set_at, get_or-set_other}
+use Rattle.certificate.proofs.Words.{get_or-set_same, length-set, slice_get_past, All-head, All-tail, replicate, set, Parts, Entry, Listed, Network, IsListed, tables, entries_at, first_entry, first_listed, items_at, or_none, roots_of, value_at, not_none, same_value, index_none, entry_found, entry_missing, key_at, keys_length}
+use Rattle.certificate.proofs.Words.{located_at, rises, AreEntries, AreNext, AllAscend, AreBelow, EachEntry, IsFramed, IsNodeFramed}
 use Rattle.std.specs.declared.vec.Vec.{Vec}
-use Rattle.std.proofs.lemmas.Bool.{cases_eq, cases_lt, cond_both, eqb-true, eq-eqb}
-use Rattle.std.proofs.lemmas.Grind.{get_or-set_at}
-use Rattle.std.proofs.lemmas.List.{get_or-set_other, get_or-set_same, length-set}
-use Rattle.std.proofs.lemmas.Option.{slice_get_past}
-use Rattle.std.proofs.lemmas.List.Elements.{All-head, All-tail}
-use Rattle.std.proofs.Math.ListN.{replicate, set}
-use Rattle.schemes.specs.declared.parts.Parts.{Parts}
-use Rattle.schemes.specs.Entry.{Entry}
-use Rattle.schemes.specs.declared.parts.Listed.{Listed}
-use Rattle.graph_edits.specs.Edges.{Network}
-use Rattle.schemes.specs.Checks.{IsListed}
-use Rattle.schemes.specs.Tables.{tables, entries_at, first_entry, first_listed, items_at, or_none, roots_of, value_at}
-use Rattle.schemes.proofs.Basics.Options.{not_none, same_value}
-use Rattle.schemes.proofs.Basics.Searches.{index_none, entry_found, entry_missing, key_at, keys_length, located_at, rises}
-use Rattle.certificate.specs.Ahead.{AreEntries, AreNext}
-use Rattle.certificate.specs.Entries.{AllAscend, AreBelow, EachEntry, IsFramed, IsNodeFramed}
 
 -- what a look-up finds has the root that was asked for, and what all entries have
 pub found_has : (P : Entry → Type 0) (r : ℕ) (es : List Entry) (e : Entry) → All P es → first_entry r es ≡ Some e → P e × (e.root ≡ r)
@@ -68,17 +51,12 @@ looked_up m p n P h x r e g =
 pub inside : (m : Network) (p : Parts) → length p.entries.items ≡ m.nodes → (x r : ℕ) (e : Entry) → (tables p).entry x r ≡ Some e → x < m.nodes
 inside m p n x r e g = (looked_up m p n (λ y f. y < m.nodes) (λ y l i d k. l) x r e g).0
 
--- and the other way round
-pub each_one : (m : Network) (p : Parts) → ((x : ℕ) → x < m.nodes → IsStrictlyIncreasing (roots_of (entries_at p x))) → (P : ℕ → Entry → Type 0)
-    → ((x r : ℕ) (e : Entry) → x < m.nodes → (tables p).entry x r ≡ Some e → e.root ≡ r → P x e) → EachEntry m p P
-each_one m p up P h x l i d k = h x (get_or (entries_at p x) i d).root (get_or (entries_at p x) i d) l (found_at (entries_at p x) (up x l) i d k) refl
-
 -- so what is said of a node, a root and an entry holds of each entry where it holds of each that is found
 pub by_look_up : (m : Network) (p : Parts) → length p.entries.items ≡ m.nodes → ((x : ℕ) → x < m.nodes → IsStrictlyIncreasing (roots_of (entries_at p x))) → (P : ℕ → ℕ → Entry → Type 0)
     → EachEntry m p (λ x e. P x e.root e) ↔ ((x r : ℕ) (e : Entry) → (tables p).entry x r ≡ Some e → P x r e)
 by_look_up m p n up P = (
   λ each x r e g. (let s = looked_up m p n (λ y f. P y f.root f) each x r e g in subst (λ z. P x z e) s.1 s.0),
-  λ h. each_one m p up (λ x e. P x e.root e) (λ x r e i g s. subst (λ z. P x z e) (sym s) (h x r e g)),
+  λ h x l i d k. h x (get_or (entries_at p x) i d).root (get_or (entries_at p x) i d) (found_at (entries_at p x) (up x l) i d k),
 )
 
 -- in a framed scheme all entries ascend
@@ -96,6 +74,11 @@ roots_rise es up i j le l = elim (cases_lt i j) [
 -- all up to a place whose root is below are below
 pub below_place : (es : List Entry) (r n : ℕ) → IsStrictlyIncreasing (roots_of es) → n < length es → slice_index (roots_of es) n < r → AreBelow r (n + 1) es
 below_place es r n up l lt k kl = (let a = roots_rise es up k n (omega (arith, kl)) l in omega (arith, a, lt))
+
+-- all up to a place are below, if each entry there is
+pub below_all : (es : List Entry) (r n : ℕ) → n ≤ length es → ((k : ℕ) (d : Entry) → k < n → (get_or es k d).root < r) → AreBelow r n es
+below_all [] r n le h k l = absurd (omega (arith, le, l))
+below_all (e ∷ es) r n le h k l = (let a = key_at (λ (z : Entry). z.root) (e ∷ es) k e (omega (arith, le, l)) in let b = h k e l in omega (arith, a, b))
 
 -- a root has no entry, if all in front of a place are below it and the one there is above
 pub nowhere : (r n : ℕ) (es : List Entry) → IsStrictlyIncreasing (roots_of es) → AreBelow r n es → (n < length es → r < slice_index (roots_of es) n) → first_entry r es ≡ None

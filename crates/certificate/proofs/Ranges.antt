@@ -1,11 +1,6 @@
 -- Ranges of nodes: each node lies in one of them, and what holds in all of them holds of each node.
-use Rattle.std.proofs.Common.{◌≡◌, ℕ, ◌+◌, ◌*◌, ◌/◌, ◌%◌, ◌<◌, ◌≤◌, min, Bool, false, sym, ap, subst, arith, List, length, get_or, inl, inr}
-use Rattle.std.specs.Prelude.{IsTrue}
-use Rattle.std.specs.List.{All}
+use Rattle.certificate.proofs.Words.{◌≡◌, ℕ, ◌+◌, ◌*◌, ◌/◌, ◌%◌, ◌<◌, ◌≤◌, min, Bool, false, sym, ap, subst, arith, List, length, get_or, inl, inr, IsTrue, All, div_ceil_times, cases_lt, HoldBetween, HoldInRange}
 use Rattle.std.proofs.lemmas.Nat.{div-add-mod', div_below, mod_below}
-use Rattle.std.proofs.lemmas.Grind.{div_ceil_times}
-use Rattle.std.proofs.lemmas.Bool.{cases_lt}
-use Rattle.certificate.specs.Ranges.{HoldBetween, HoldInRange}
 
 -- the range of a node
 pub record Lies (size x k : ℕ) : Type 0 where

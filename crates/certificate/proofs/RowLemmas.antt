@@ -1,32 +1,13 @@
 -- One pass over the ports of a node, from the last to the first, finds its children in the order of their numbers.
-use Rattle.std.proofs.Common.{◌≡◌, ◌+◌, ◌<◌, ◌≤◌, ◌==◌, inl, inr, ℕ, zero, suc, Bool, true, false, sym, refl, ap, subst, ◌∙◌, arith, List, [], ◌∷◌, map, drop, length, get_or, max}
-use Rattle.std.specs.Prelude.{◌↔◌, Option, Some, None, MatchOption, not}
-use Rattle.std.proofs.lemmas.Bool.{cases_eq, cond_both, eqb-false, ne_eqb}
-use Rattle.std.proofs.lemmas.List.{drop_more, get_or_default}
-use Rattle.std.proofs.lemmas.Option.{get_or_from_slice_get, slice_get_within}
-use Rattle.heavy_labels.specs.Numbering.{Record}
-use Rattle.heavy_labels.specs.Stepped.{record_of}
-use Rattle.schemes.specs.declared.parts.Parts.{Parts}
-use Rattle.schemes.specs.Entry.{Entry}
-use Rattle.graph_edits.specs.Edges.{Network, neighbours_of, over_port, below as up_to}
-use Rattle.graph_edits.specs.Laws.{rising_neighbours}
-use Rattle.schemes.specs.Ports.{neighbours, port_to}
-use Rattle.schemes.specs.Tables.{Tables, tables}
-use Rattle.schemes.specs.Checks.{IsShaped, parent_is, children, up_port, down_port}
-use Rattle.schemes.specs.Local.{record_at, record_or, span, widest_span, first_with, all_but, row_by, in_row, IsRow, IsHeavyOf, FitsBelow, HasLocalRecords}
-use Rattle.schemes.proofs.Basics.Lists.{Within, port_found, within_filtered, within_up_to}
-use Rattle.schemes.proofs.Basics.Options.{not_none, same_value}
-use Rattle.schemes.proofs.Basics.Searches.{index_at, key_at, keys_length}
-use Rattle.schemes.proofs.Basics.Walks.{symmetric}
-use Rattle.schemes.proofs.Serving.Exact.{Distances}
+use Rattle.certificate.proofs.Words.{◌≡◌, ◌+◌, ◌<◌, ◌≤◌, ◌==◌, inl, inr, ℕ, zero, suc, Bool, true, false, sym, refl, ap, subst, ◌∙◌, arith, List, [], ◌∷◌, map, drop, length, get_or, max, ◌↔◌, Option, Some, None, MatchOption, not, cases_eq, cond_both, eqb-false, ne_eqb, drop_more, get_or_default, get_or_from_slice_get}
+use Rattle.certificate.proofs.Words.{slice_get_within, Record, record_of, Parts, Entry, Network, neighbours_of, over_port, rising_neighbours, neighbours, port_to, Tables, tables, IsShaped, parent_is, children, up_port, down_port, record_at, record_or, span, widest_span, first_with, all_but, row_by, in_row, IsRow, IsHeavyOf, FitsBelow}
+use Rattle.certificate.proofs.Words.{HasLocalRecords, not_none, same_value, index_at, key_at, keys_length, symmetric, Distances, children_near, child_of, entry_at, farthest, node_inside, place, placed_tree, tree_at, tree_to_depth, tree_to_depth-fits, tree_to_depth-node, behind, but, children_among, first_widest, with_child, AreChildrenFit, AreNumbered, FitsAt, IsLocalAt, IsPorted, IsWidest, LeadsTo, StartsAt, entries_at}
+use Rattle.schemes.proofs.Basics.Lists.{port_found}
 use Rattle.schemes.proofs.Serving.Moves.{get_map}
-use Rattle.schemes.proofs.Serving.StepsAsMoves.{index_get}
-use Rattle.schemes.proofs.LocalForms.LocalChecks.{children_near}
+use Rattle.schemes.proofs.Serving.StepsAsMoves.{down_at, index_get}
 use Rattle.schemes.proofs.LocalForms.ChildRows.{row_scan}
-use Rattle.schemes.proofs.LocalForms.LocalRecords.{Every, every_filtered}
-use Rattle.schemes.proofs.LocalForms.TreeOfTables.{child_of, node_inside, parent_is_from}
-use Rattle.certificate.specs.Rows.{behind, but, children_among, first_widest, with_child, AreChildrenFit, AreNumbered, FitsAt, IsLocalAt, IsPorted, IsWidest, LeadsTo, StartsAt}
-use Rattle.certificate.proofs.LookUps.{looked_up, each_one}
+use Rattle.schemes.proofs.LocalForms.LocalRecords.{Every, every_filtered, local_records}
+use Rattle.certificate.proofs.LookUps.{looked_up, found_at}
 
 -- ---- ports
 
@@ -50,9 +31,6 @@ behind_port m x y (Some p) e = sym (port_behind m x y p e)
 
 port_leads : (m : Network) (x y q : ℕ) (o : Option ℕ) → port_to m x y ≡ Some q → o ≡ port_to m x y → behind m x o ≡ Some y
 port_leads m x y q o found e = ap (behind m x) (e ∙ found) ∙ sym (get_map (λ e. e.0) (neighbours_of m x) q) ∙ index_get y q (neighbours m x) found
-
-down_at : (m : Network) (x y : ℕ) (e : Entry) → e.parent ≡ Some y → down_port m x (Some e) ≡ port_to m y x
-down_at m x y e k = rw k refl
 
 -- the port to the parent
 pub ported_up : (m : Network) (x : ℕ) (e : Entry) → IsPorted m x e → e.tree_record.parent_port ≡ up_port m x (Some e)
@@ -156,20 +134,6 @@ row_numbers : (m : Network) (t : Tables) (r f depth end : ℕ) (ys : List ℕ) �
 row_numbers m t r f depth end [] a = a
 row_numbers m t r f depth end (y ∷ ys) a = (a.0.first, (a.0.depth_is, row_numbers m t r ((record_at t r y).last + 1) depth end ys a.1))
 
-row_port : (m : Network) (t : Tables) (r x : ℕ) (h : Bool) (f depth end : ℕ) (ys : List ℕ) → IsRow m t r h f depth end ys → Within x ys → (record_at t r x).parent_port ≡ up_port m x (t.entry x r)
-row_port m t r x h f depth end [] a w = absurd w
-row_port m t r x h f depth end (y ∷ ys) a w = elim w [
-  | inl e ↦ subst (λ z. (record_at t r z).parent_port ≡ up_port m z (t.entry z r)) (sym e) a.0.port
-  | inr k ↦ row_port m t r x false ((record_at t r y).last + 1) depth end ys a.1 k
-]
-
-within_row : (x : ℕ) (o : Option ℕ) (ks : List ℕ) → Within x ks → Within x (row_by o ks)
-within_row x None ks w = w
-within_row x (Some h) ks w = elim (cases_eq x h) [
-  | inl e ↦ inl e
-  | inr ne ↦ inr (within_filtered (λ y. not (y == h)) x (ap not (ne_eqb x h ne)) ks w)
-]
-
 module _ (m : Network) (t : Tables) (d : Distances m t) (n : t.nodes ≡ m.nodes) where
   row_is : (r x : ℕ) (o : Option ℕ) → first_widest t r (children_among t r x (neighbours m x)) ≡ o → in_row t r x ≡ row_by o (children_among t r x (neighbours m x))
   row_is r x o e = row_scan t r x ∙ ap (λ z. row_by (first_widest t r z) z) (children_near m t d n r x) ∙ ap (λ z. row_by z (children_among t r x (neighbours m x))) e
@@ -244,19 +208,18 @@ module _ (m : Network) (t : Tables) (d : Distances m t) (n : t.nodes ≡ m.nodes
         let b = subst IsCounted (sym a.0) a in
         ((sym a.0, b.1.0), b.1.1)
 
-  -- where all rows fit, each record has the port to its node's parent
+  -- where all rows fit, each record is that of its place in the tree, and so has the port to its node's parent
   own_port : HasLocalRecords m t → (x r : ℕ) (e : Entry) → t.entry x r ≡ Some e → (record_at t r x).parent_port ≡ up_port m x (t.entry x r)
-  own_port h x r e g = elim (d.parents x r e g) [
-    | inl s ↦ (
-        let own = d.own r (d.inside x r e g) in
-        subst (λ z. (record_at t r z).parent_port ≡ up_port m z (t.entry z r)) (sym s) ((h r (d.inside x r e g)).root.port ∙ sym (ap (up_port m r) own.1.0 ∙ rw own.1.1.1 refl)))
-    | inr y ↦ (
-        let f = (d.tight x y.0 r e g y.1).0 in
-        let fit = (h r (d.inside x r e g)).below y.0 f.1.0 f.1.1.1.0 in
-        let kids = children t r y.0 in
-        let w = within_filtered (λ z. parent_is y.0 (t.entry z r)) x (parent_is_from t r y.0 x e g y.1) (up_to t.nodes) (within_up_to t.nodes x (subst (λ z. x < z) (sym n) (node_inside m t d x r e g))) in
-        row_port m t r x true _ _ _ (in_row t r y.0) fit.row (subst (Within x) (sym (row_scan t r y.0)) (within_row x (first_with t r (widest_span t r kids) kids) kids w)))
-  ]
+  own_port h x r e g =
+      let i = d.inside x r e g in
+      let o = d.own r i in
+      let a = entry_at m t d n x r e g in
+      let s = tree_to_depth m t r a.0 x in
+      let p = place s.node a.1.0.up a.1.0.down s.below a.1.0.first a.1.0.lights a.1.0.above in
+      let at = (placed_tree m t r (λ y f k. node_inside m t d y r f k) (tree_at m t r) (tree_to_depth-node m t r (farthest t r m.nodes) r) o.0 o.1.0 o.1.1.1
+      (tree_to_depth-fits m t r (farthest t r m.nodes) r) (λ q above k. local_records m t d h r q above i k) (p ∷ a.1.0.above) a.1.0.here).0.0 in
+      subst (λ z. (record_at t r z).parent_port ≡ up_port m z (t.entry z r)) (tree_to_depth-node m t r a.0 x)
+      (ap (λ (k : Record). k.parent_port) (ap record_or at.is ∙ at.tree_record) ∙ at.up ∙ sym (ap (up_port m s.node) at.is))
 
 -- ---- the whole rule
 
@@ -271,10 +234,11 @@ records m p d s = (
   },
   λ h x l. (
     (h x l).root,
-    each_one m p s.roots_ascend (λ y f. IsPorted m y f × FitsAt m (tables p) y f) (λ y r e i g k. (
-        let g2 = subst (λ z. (tables p).entry y z ≡ Some e) (sym k) g in
-        let port : e.tree_record.parent_port ≡ up_port m y (Some e) = subst (λ o. (record_or o).parent_port ≡ up_port m y o) g2 (own_port m (tables p) d s.nodes h y e.root e g2) in
-        (up_ported m (tables p) d y e g2 port, fits_from m (tables p) d s.nodes y e g2 ((h e.root (d.inside y e.root e g2)).below y e g2)))) x l,
+    (λ i f k. (
+        let e = get_or (entries_at p x) i f in
+        let g = found_at (entries_at p x) (s.roots_ascend x l) i f k in
+        let port : e.tree_record.parent_port ≡ up_port m x (Some e) = subst (λ o. (record_or o).parent_port ≡ up_port m x o) g (own_port m (tables p) d s.nodes h x e.root e g) in
+        (up_ported m (tables p) d x e g port, fits_from m (tables p) d s.nodes x e g ((h e.root (d.inside x e.root e g)).below x e g)))),
   ),
 )
   where

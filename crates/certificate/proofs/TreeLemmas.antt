@@ -1,27 +1,9 @@
 -- The swift pass: what stands in front of the places, and what follows once all trees are right.
-use Rattle.std.proofs.Common.{◌≡◌, ◌<◌, ◌≤◌, ◌+◌, inl, inr, ℕ, false, sym, refl, ap, subst, ◌∙◌, arith, List, length, get_or}
-use Rattle.std.specs.Prelude.{IsSome, slice_index}
-use Rattle.std.specs.List.{All}
-use Rattle.std.proofs.lemmas.Bool.{cases_eq, cases_lt}
-use Rattle.std.proofs.lemmas.Grind.{get_or-set_at}
-use Rattle.std.proofs.lemmas.List.{get_or_default, get_or-set_other, length-set}
-use Rattle.std.proofs.Math.ListN.{set}
-use Rattle.graph_edits.specs.Edges.{Network, IsSound}
-use Rattle.schemes.specs.declared.parts.Parts.{Parts}
-use Rattle.schemes.specs.Entry.{Entry}
-use Rattle.schemes.specs.Checks.{Fault, IsChecked, k1, k2, k3, k4, k5, k6, k7, k8}
-use Rattle.schemes.specs.Tables.{tables, entries_at}
-use Rattle.schemes.proofs.Basics.Searches.{key_at}
-use Rattle.certificate.specs.Climbs.{HasLabelsAt}
-use Rattle.certificate.specs.Entries.{AllAscend, AreBelow, HasDirectoryAt, IsListedBack, IsStrictAt, IsClosedAt, IsFramed, IsNodeFramed, IsRightOver, IsTightAt}
-use Rattle.certificate.specs.Ranges.{HoldOfAll}
-use Rattle.certificate.specs.Rows.{IsLocalAt, IsSwept}
-use Rattle.certificate.specs.Rules.{HoldsAt, HoldsBefore}
-use Rattle.certificate.specs.Trees.{AreRightTo, ArePast, GoOn, IsEntryRight, IsTreeRight}
+use Rattle.certificate.proofs.Words.{◌≡◌, ◌<◌, ◌≤◌, ◌+◌, inl, inr, ℕ, false, sym, refl, ap, subst, ◌∙◌, arith, List, length, get_or, IsSome, slice_index, All, cases_eq, cases_lt, get_or-set_at, get_or_default, get_or-set_other, length-set, set, Network, IsSound, Parts, Entry, Fault, IsChecked, k1, k2, k3, k4, k5, k6, k7, k8, tables}
+use Rattle.certificate.proofs.Words.{entries_at, key_at, HasLabelsAt, AllAscend, AreBelow, HasDirectoryAt, IsListedBack, IsStrictAt, IsClosedAt, IsFramed, IsNodeFramed, IsRightOver, IsTightAt, HoldOfAll, IsSwept, HoldsAt, HoldsBefore, AreRightTo, ArePast, GoOn, IsEntryRight, IsTreeRight}
 use Rattle.certificate.proofs.LabelLemmas.{linked_to}
 use Rattle.certificate.proofs.LookUps.{roots_rise}
-use Rattle.certificate.proofs.Rules.{first_of, rule}
-use Rattle.certificate.proofs.Verdict.{checked_by}
+use Rattle.certificate.proofs.Rules.{first_of, rule, checked_by}
 
 -- at first nothing counts that stands in front of the places
 pub right_first : (m : Network) (p : Parts) (first : ℕ) (places : List ℕ) → ((x : ℕ) → x < m.nodes → AreBelow first (slice_index places x) (entries_at p x)) → AreRightTo m p first places
@@ -31,24 +13,24 @@ right_first m p first places below x j d l k in_list le =
     absurd (omega (arith, b, key, le))
 
 -- a place goes on behind an entry that is right
-right_more : (m : Network) (p : Parts) (first x k : ℕ) (old : List ℕ) (e : Entry) → x < length old → slice_index old x < length (entries_at p x) → e ≡ get_or (entries_at p x) (slice_index old x) e → IsEntryRight m p x e
-    → k ≤ slice_index old x + 1 → AreRightTo m p first old → AreRightTo m p first (set old x k)
-right_more m p first x k old e room within is right step h y j d l lt in_list le = elim (cases_eq y x) [
-  | inl same ↦ (
-      let s = get_or-set_at old x y k 0 same room in
-      elim (cases_lt j (slice_index old x)) [
-        | inl a ↦ h y j d l (let o = ap (slice_index old) same in omega (arith, o, a)) in_list le
-        | inr a ↦ (let at : j ≡ slice_index old x = omega (arith, s, a, lt, step) in rw (same, at) (subst (IsEntryRight m p x) (is ∙ get_or_default (entries_at p x) (slice_index old x) e d within) right))
-      ])
-  | inr ne ↦ h y j d l (let s = get_or-set_other old x y k 0 ne in omega (arith, s, lt)) in_list le
-]
-
 pub gone_on : (m : Network) (p : Parts) (x k r : ℕ) (old : List ℕ) (e : Entry) → x < length old → slice_index old x < length (entries_at p x) → e ≡ get_or (entries_at p x) (slice_index old x) e → e.root ≡ r → k ≤ slice_index old x + 1
     → IsSwept m (tables p) x e → IsStrictAt (tables p) x e → ((tables p).landmark r ≡ false → IsSome ((tables p).listed r x)) → GoOn m p old (set old x k)
 unfolding IsListedBack
-gone_on m p x k r old e room within is root step swept strict listed =
-    let right : IsEntryRight m p x e = record { swept = swept; strict = strict; listed = subst (λ z. (tables p).landmark z ≡ false → IsSome ((tables p).listed z x)) (sym root) listed } in
-    record { room = length-set old x k; right = λ first h. right_more m p first x k old e room within is right step h }
+gone_on m p x k r old e room within is root step swept strict listed = record {
+  room = length-set old x k;
+  right = λ first h y j d l lt in_list le. elim (cases_eq y x) [
+    | inl same ↦ (
+        let s = get_or-set_at old x y k 0 same room in
+        elim (cases_lt j (slice_index old x)) [
+          | inl a ↦ h y j d l (let o = ap (slice_index old) same in omega (arith, o, a)) in_list le
+          | inr a ↦ (
+              let at : j ≡ slice_index old x = omega (arith, s, a, lt, step) in
+              let right : IsEntryRight m p x e = record { swept = swept; strict = strict; listed = subst (λ z. (tables p).landmark z ≡ false → IsSome ((tables p).listed z x)) (sym root) listed } in
+              rw (same, at) (subst (IsEntryRight m p x) (is ∙ get_or_default (entries_at p x) (slice_index old x) e d within) right))
+        ])
+    | inr ne ↦ h y j d l (let s = get_or-set_other old x y k 0 ne in omega (arith, s, lt)) in_list le
+  ];
+}
 
 pub goes_on : (m : Network) (p : Parts) (a b c : List ℕ) → GoOn m p a b → GoOn m p b c → GoOn m p a c
 goes_on m p a b c f g = record { room = g.room ∙ f.room; right = λ first h. g.right first (f.right first h) }
@@ -75,13 +57,13 @@ module _ (m : Network) (p : Parts) (sound : IsSound m) (framed : IsFramed m p) (
   all_right x l i d k = (trees (get_or (entries_at p x) i d).root ((framed.1 x l).1.1.1 i d k)).entries x l i d k refl
 
   holds_at : (k : Fault) → HoldsBefore m p k → (x : ℕ) → x < m.nodes → HoldsAt m p k x
-  unfolding IsSwept IsRightOver IsClosedAt IsTightAt IsLocalAt HasLabelsAt HasDirectoryAt
+  unfolding IsSwept IsRightOver IsClosedAt IsTightAt HasLabelsAt HasDirectoryAt
   holds_at k1 before x l = λ i d k. (all_right x l i d k).swept.0
   holds_at k2 before x l = λ i d k j f n. ((all_right x l i d k).swept.1.1.0 j f n).0
   holds_at k3 before x l = λ i d k j f n. ((all_right x l i d k).swept.1.1.0 j f n).1
   holds_at k4 before x l = λ i d k. (all_right x l i d k).strict
   holds_at k5 before x l = (trees x l).root.nearest
-  holds_at k6 before x l = ((trees x l).root.root, λ i d k. ((all_right x l i d k).swept.1.0, (all_right x l i d k).swept.1.1.1))
+  holds_at k6 before x l = ((trees x l).root.root, λ i d k. (all_right x l i d k).swept)
   holds_at k7 before x l = (let h = first_of m p sound k7 (omega arith) before in (linked_to m p h x (trees x l).root.linked, (trees x l).root.home h))
   holds_at k8 before x l = ((trees x l).root.order, ((trees x l).root.listed, λ i d k. (all_right x l i d k).listed))
 

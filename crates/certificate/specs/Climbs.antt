@@ -1,17 +1,6 @@
 -- What is said of the labels of one node, by climbing from the nodes that they name.
-use Rattle.std.specs.Prelude.{◌≡◌, ◌==◌, ◌↔◌, ℕ, ◌≤◌, Bool, MatchOption, Option, None, Some, IsSome, List, []}
-use denote.Ref.{Bor}
-use Rattle.std.specs.List.{All}
-use Rattle.heavy_labels.specs.Label.{Label}
-use Rattle.heavy_labels.specs.Numbering.{lights_at}
-use Rattle.schemes.specs.declared.parts.Parts.{Parts}
-use Rattle.schemes.specs.declared.parts.Listed.{Listed}
-use Rattle.landmarks.specs.declared.near.Near.{Near}
-use Rattle.graph_edits.specs.Edges.{Network, IsSound}
-use Rattle.schemes.specs.Tables.{Tables, tables, directory_at}
-use Rattle.schemes.specs.Checks.{Fault, Holds, number_of, distance_of, farthest}
-use Rattle.schemes.specs.Local.{lights_to, parent_of, record_at, IsLocalLabel}
-use Rattle.schemes.specs.Ports.{port_to}
+use Rattle.std.specs.Prelude.{◌≡◌, ◌==◌, ◌↔◌, ℕ, ◌≤◌, Bool, MatchOption, Option, None, Some, IsSome, List, [], All}
+use Rattle.certificate.specs.Words.{Bor, Label, lights_at, Parts, Listed, Near, Network, IsSound, Tables, tables, directory_at, Fault, Holds, number_of, distance_of, farthest, lights_to, parent_of, record_at, IsLocalLabel, port_to}
 
 -- the network is sound, and the first five rules hold
 unfoldable pub HoldsFirst : Network → Parts → Type 0
@@ -34,13 +23,9 @@ abbrev pub AreLinkedBy : Network → Tables → ℕ → ℕ → List ℕ → Opt
 AreLinkedBy m t u x ls None = ls ≡ []
 AreLinkedBy m t u x ls (Some y) = (l : Label) × ((t.listed u y ≡ Some l) × (ls ≡ lights_at ((record_at t u x).light_depth == (record_at t u y).light_depth) l.lights (port_to m y x)))
 
--- the same by the label of its parent
-unfoldable pub AreLinked : Network → Tables → ℕ → ℕ → List ℕ → Type 0
-AreLinked m t u x ls = AreLinkedBy m t u x ls (parent_of (t.entry x u))
-
 -- a label of u's directory fits the one of its node's parent there, if its node has an entry for u
 unfoldable pub IsLinked : Network → Tables → ℕ → Listed → Type 0
-IsLinked m t u e = IsSome (t.entry e.node u) → (e.label.first ≡ (record_at t u e.node).first) × AreLinked m t u e.node e.label.lights
+IsLinked m t u e = IsSome (t.entry e.node u) → (e.label.first ≡ (record_at t u e.node).first) × AreLinkedBy m t u e.node e.label.lights (parent_of (t.entry e.node u))
 
 -- a label of u's directory is right, if its node has an entry for u
 unfoldable pub IsLabelRight : Network → Tables → ℕ → Listed → Type 0

@@ -1,13 +1,6 @@
 -- What each rule says of one entry of a node, and of one node.
-use Rattle.std.specs.Prelude.{◌≡◌, ◌≢◌, ℕ, ◌+◌, ◌<◌, ◌≤◌, ◌⊎◌, ◌↔◌, true, false, Some, None, IsSome, MatchOption, List, [], length, slice_index}
-use Rattle.std.specs.List.{All}
-use Rattle.std.specs.List.Sorted.{IsStrictlyIncreasing}
-use Rattle.schemes.specs.declared.parts.Parts.{Parts}
-use Rattle.schemes.specs.Entry.{Entry}
-use Rattle.landmarks.specs.declared.near.Near.{Near}
-use Rattle.graph_edits.specs.Edges.{Network, weight_in, neighbours_of}
-use Rattle.schemes.specs.Ports.{neighbours}
-use Rattle.schemes.specs.Tables.{Tables, tables, entries_at, directory_at, ports_at, roots_of, nodes_of}
+use Rattle.std.specs.Prelude.{◌≡◌, ◌≢◌, ℕ, ◌+◌, ◌<◌, ◌≤◌, ◌⊎◌, ◌↔◌, true, false, Some, None, IsSome, MatchOption, List, [], length, slice_index, All}
+use Rattle.certificate.specs.Words.{Parts, Entry, Near, Network, weight_in, neighbours_of, neighbours, Tables, tables, entries_at, directory_at, ports_at, roots_of, nodes_of, IsStrictlyIncreasing}
 
 -- each entry of each node
 abbrev pub EachEntry : Network → Parts → (ℕ → Entry → Type 0) → Type 0

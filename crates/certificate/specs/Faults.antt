@@ -1,8 +1,7 @@
 -- The rule that a fault names.
 use Rattle.std.specs.Prelude.{Result, Ok, Err, ◌↔◌, ℕ, List, ◌∷◌, [], ◌++◌, ◌+◌, codes, ◌≡◌}
-use Rattle.schemes.specs.declared.parts.Parts.{Parts}
-use Rattle.graph_edits.specs.Edges.{Network}
-use Rattle.schemes.specs.Checks.{Fault as Rule, k1, k2, k3, k4, k5, k6, k7, k8, number_of, IsChecked, IsFirstFault}
+use Rattle.certificate.specs.Words.{Parts, Network, k1, k2, k3, k4, k5, k6, k7, k8, number_of, IsChecked, IsFirstFault}
+use Rattle.schemes.specs.Checks.{Fault as Rule}
 use Rattle.certificate.specs.declared.fault.Fault.{Fault}
 use Rattle.certificate.specs.declared.fault.Fault.TheVariants.{Shape, Edges, Parents, Strict, Nearest, Records, Labels, Directories}
 

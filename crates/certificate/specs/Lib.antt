@@ -1,9 +1,8 @@
+pub mod Words
 pub mod Entries
 pub mod Rows
 pub mod Climbs
 pub mod Rules
 pub mod Trees
 pub mod Faults
-pub mod Ranges
 pub mod Found
-pub mod Ahead

@@ -1,14 +1,6 @@
 -- What is said of one entry's record: the numbers of its children, found among its node's neighbours.
-use Rattle.std.specs.Prelude.{◌≡◌, ◌↔◌, ℕ, ◌+◌, cond, MatchOption, Option, Some, None, List, [], ◌∷◌}
-use Rattle.std.specs.List.{All}
-use Rattle.heavy_labels.specs.declared.tree_record.Record.{Record}
-use Rattle.schemes.specs.declared.parts.Parts.{Parts}
-use Rattle.schemes.specs.Entry.{Entry}
-use Rattle.graph_edits.specs.Edges.{Network, neighbours_of, over_port}
-use Rattle.schemes.specs.Ports.{neighbours, filtered}
-use Rattle.schemes.specs.Tables.{Tables, tables, entries_at}
-use Rattle.schemes.specs.Checks.{parent_is}
-use Rattle.schemes.specs.Local.{record_at, widest_span, first_with, all_but, FitsRoot}
+use Rattle.std.specs.Prelude.{◌≡◌, ◌↔◌, ℕ, ◌+◌, cond, MatchOption, Option, Some, None, List, [], ◌∷◌, All}
+use Rattle.certificate.specs.Words.{Record, Parts, Entry, Network, neighbours_of, over_port, neighbours, filtered, Tables, tables, entries_at, parent_is, record_at, widest_span, first_with, all_but, FitsRoot}
 use Rattle.certificate.specs.Entries.{IsEntryShaped, IsRightOver}
 
 -- the neighbour behind a port of x, where there is one

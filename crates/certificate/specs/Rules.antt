@@ -1,13 +1,9 @@
 -- The rules, as what they say of each node.
-use Rattle.std.specs.Prelude.{ℕ, ◌<◌, ◌≤◌}
-use Rattle.std.specs.List.{All}
-use Rattle.schemes.specs.declared.parts.Parts.{Parts}
-use Rattle.graph_edits.specs.Edges.{Network}
-use Rattle.schemes.specs.Checks.{Fault, Holds, number_of, k1, k2, k3, k4, k5, k6, k7, k8}
-use Rattle.schemes.specs.Tables.{tables, entries_at}
+use Rattle.std.specs.Prelude.{ℕ, ◌<◌, ◌≤◌, All}
+use Rattle.certificate.specs.Words.{Parts, Network, Fault, Holds, number_of, k1, k2, k3, k4, k5, k6, k7, k8, tables, entries_at, FitsRoot}
 use Rattle.certificate.specs.Climbs.{HasLabelsAt}
 use Rattle.certificate.specs.Entries.{HasDirectoryAt, IsClosedAt, IsEntryShaped, IsNearestAt, IsStrictAt, IsTightAt}
-use Rattle.certificate.specs.Rows.{IsLocalAt}
+use Rattle.certificate.specs.Rows.{IsSwept}
 
 -- the rules up to the one with this number hold
 abbrev pub HoldsTo : Network → Parts → ℕ → Type 0
@@ -24,6 +20,6 @@ HoldsAt m p k2 x = All (IsClosedAt m (tables p) x) (entries_at p x)
 HoldsAt m p k3 x = All (IsTightAt m (tables p) x) (entries_at p x)
 HoldsAt m p k4 x = All (IsStrictAt (tables p) x) (entries_at p x)
 HoldsAt m p k5 x = IsNearestAt p x
-HoldsAt m p k6 x = IsLocalAt m p x
+HoldsAt m p k6 x = FitsRoot (tables p) x × All (IsSwept m (tables p) x) (entries_at p x)
 HoldsAt m p k7 x = HasLabelsAt m p x
 HoldsAt m p k8 x = HasDirectoryAt p x

@@ -1,11 +1,6 @@
 -- What the swift pass finds right: entries, root by root.
-use Rattle.std.specs.Prelude.{◌≡◌, ℕ, ◌<◌, ◌≤◌, List, get_or, length, slice_index}
-use Rattle.std.specs.List.{All}
-use Rattle.schemes.specs.declared.parts.Parts.{Parts}
-use Rattle.schemes.specs.Entry.{Entry}
-use Rattle.graph_edits.specs.Edges.{Network}
-use Rattle.schemes.specs.Local.{FitsRoot}
-use Rattle.schemes.specs.Tables.{tables, directory_at, entries_at, roots_of}
+use Rattle.std.specs.Prelude.{◌≡◌, ℕ, ◌<◌, ◌≤◌, List, get_or, length, slice_index, ◌+◌, ◌*◌, All}
+use Rattle.certificate.specs.Words.{Parts, Entry, Network, FitsRoot, tables, directory_at, entries_at, roots_of}
 use Rattle.certificate.specs.Climbs.{HoldsFirst, IsHomeRight, IsLinked}
 use Rattle.certificate.specs.Entries.{HasOrderAt, IsListedBack, IsListedRight, IsNearestAt, IsStrictAt}
 use Rattle.certificate.specs.Rows.{IsSwept}
@@ -43,3 +38,21 @@ pub record IsRootRight (m : Network) (p : Parts) (r : ℕ) : Type 0 where
 pub record IsTreeRight (m : Network) (p : Parts) (r : ℕ) : Type 0 where
   pub root : IsRootRight m p r
   pub entries : (x : ℕ) → x < m.nodes → All (λ e. e.root ≡ r → IsEntryRight m p x e) (entries_at p x)
+
+-- ---- ranges of nodes, tested each by itself: each has so many nodes, but for the last ones, which end with the nodes
+
+-- it is so of each node of a network and its parts
+abbrev pub HoldOfAll : (Network → Parts → ℕ → Type 0) → Network → Parts → Type 0
+HoldOfAll P m p = (x : ℕ) → x < m.nodes → P m p x
+
+-- it is so of each node from the first to below the last
+abbrev pub HoldBetween : (ℕ → Type 0) → ℕ → ℕ → Type 0
+HoldBetween P first last = (x : ℕ) → first ≤ x → x < last → P x
+
+-- it is so of each node of the range i
+abbrev pub HoldInRange : (ℕ → Type 0) → ℕ → ℕ → ℕ → Type 0
+HoldInRange P nodes size i = (x : ℕ) → i * size ≤ x → x < i * size + size → x < nodes → P x
+
+-- it is so of each node of the range i of a network and its parts
+abbrev pub HoldInPart : (Network → Parts → ℕ → Type 0) → Network → Parts → ℕ → ℕ → Type 0
+HoldInPart P m p size i = HoldInRange (P m p) m.nodes size i

@@ -1,20 +1,17 @@
 // The checks in their order.
 ghost use Rattle.std.specs.Prelude.{◌≡◌, ◌+◌, ◌<◌, ◌↔◌, ℕ, IfErr, IsTrue, OnOk};
+ghost use Rattle.certificate.specs.Words.{IsSound, Holds, IsChecked, IsFirstFault, number_of, Serves, tables};
 ghost use Rattle.certificate.specs.Entries.{IsFramed};
 ghost use Rattle.certificate.specs.Faults.{IsExact, rule_of};
 ghost use Rattle.certificate.specs.Rules.{HoldsAt, HoldsBefore, HoldsTo};
-ghost use Rattle.graph_edits.specs.Edges.{IsSound};
-ghost use Rattle.schemes.specs.Checks.{Holds, IsChecked, IsFirstFault, number_of};
-ghost use Rattle.schemes.specs.Service.{Serves};
-ghost use Rattle.schemes.specs.Tables.{tables};
 
 use crate::directories::has_directory;
-use crate::edges::{are_closed, are_tight};
+use crate::edges::{is_closed, is_tight};
 use crate::fault::Fault;
 use crate::labels::has_labels_at;
-use crate::nearest::{are_strict, is_nearest};
-use crate::records::{are_swept, fits_root};
-use crate::shape::{are_shaped, is_framed};
+use crate::nearest::{is_nearest, is_strict};
+use crate::records::{fits_root, is_swept_alone};
+use crate::shape::{is_entry_shaped_alone, is_framed};
 use crate::swift::are_trees_right;
 use graph_edits::Graph;
 use schemes::Scheme;
@@ -42,13 +39,15 @@ fn holds_at(graph: &Graph, scheme: &Scheme, fault: Fault, x: u16) -> bool
     requires before { HoldsBefore graph.now scheme.now (rule_of fault) }
     ensures { IsTrue result ↔ HoldsAt graph.now scheme.now (rule_of fault) x }
 {
+    let mut entries = scheme.entries_of(x).iter();
     match fault {
-        Fault::Shape => are_shaped(graph, scheme, x),
-        Fault::Edges => are_closed(graph, scheme, x),
-        Fault::Parents => are_tight(graph, scheme, x),
-        Fault::Strict => are_strict(scheme, x),
+        Fault::Shape => entries.all(|entry| is_entry_shaped_alone(graph, scheme, x, entry)),
+        Fault::Edges => entries.all(|entry| is_closed(graph, scheme, x, entry)),
+        Fault::Parents => entries.all(|entry| is_tight(graph, scheme, x, entry)),
+        Fault::Strict => entries.all(|entry| is_strict(scheme, x, entry)),
         Fault::Nearest => is_nearest(scheme, x),
-        Fault::Records => fits_root(scheme, x) && are_swept(graph, scheme, x),
+        Fault::Records => fits_root(scheme, x)
+            && entries.all(|entry| is_swept_alone(graph, scheme, x, entry)),
         Fault::Labels => has_labels_at(graph, scheme, x),
         Fault::Directories => has_directory(scheme, x),
     }

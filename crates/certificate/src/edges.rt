@@ -1,14 +1,26 @@
 // Edges and Parents: an entry leads over every edge to an entry no farther, or to where a landmark is as near; and its parent gives its
 // distance, first of all neighbours.
-ghost use Rattle.std.specs.Prelude.{◌≡◌, ◌+◌, ◌<◌, ◌≤◌, ◌↔◌, ℕ, IsTrue};
-ghost use Rattle.std.specs.List.{All};
+ghost use Rattle.std.specs.Prelude.{◌≡◌, ◌+◌, ◌<◌, ◌≤◌, ◌↔◌, ℕ, IsTrue, All};
+ghost use Rattle.certificate.specs.Words.{Tables, entries_at, tables};
 ghost use Rattle.certificate.specs.Entries.{IsClosedAt, IsClosedOver, IsRightOver, IsTightAt, IsTightOver};
 ghost use Rattle.certificate.specs.Found.{HasNearWithin, IsEntryOf};
-ghost use Rattle.schemes.specs.Tables.{Tables, entries_at, tables};
 
-use crate::sums::{is_at_most, is_sum};
 use graph_edits::Graph;
 use schemes::{Entry, Scheme};
+
+/// Whether a distance is that of a node and an edge more, without the sum.
+fn is_sum(total: u64, part: u64, weight: u32) -> bool
+    ensures { IsTrue result ↔ total ≡ part + weight }
+{
+    total >= part && total - part == weight as u64
+}
+
+/// Whether a distance is at most that of a node and an edge more, in the same way.
+fn is_at_most(distance: u64, part: u64, weight: u32) -> bool
+    ensures { IsTrue result ↔ distance ≤ part + weight }
+{
+    distance <= part || distance - part <= weight as u64
+}
 
 /// Whether a node's nearest landmark is no farther than an edge past a distance.
 fn is_landmark_near(scheme: &Scheme, y: u16, distance: u64, weight: u32) -> bool
@@ -85,7 +97,7 @@ fn is_tight_by(scheme: &Scheme, entry: &Entry, edge: (u16, u32)) -> bool
 
 /// Whether an entry of x is closed over each edge.
 #[tactic(auto, unfolding(crate::specs::Entries::IsClosedAt))]
-fn is_closed(graph: &Graph, scheme: &Scheme, x: u16, entry: &Entry) -> bool
+pub(crate) fn is_closed(graph: &Graph, scheme: &Scheme, x: u16, entry: &Entry) -> bool
     requires { x < graph.now.nodes }
     ensures { IsTrue result ↔ IsClosedAt graph.now (tables scheme.now) x entry.now }
 {
@@ -95,32 +107,10 @@ fn is_closed(graph: &Graph, scheme: &Scheme, x: u16, entry: &Entry) -> bool
 
 /// Whether it is tight over each edge.
 #[tactic(auto, unfolding(crate::specs::Entries::IsTightAt))]
-fn is_tight(graph: &Graph, scheme: &Scheme, x: u16, entry: &Entry) -> bool
+pub(crate) fn is_tight(graph: &Graph, scheme: &Scheme, x: u16, entry: &Entry) -> bool
     requires { x < graph.now.nodes }
     ensures { IsTrue result ↔ IsTightAt graph.now (tables scheme.now) x entry.now }
 {
     let row = graph.neighbours(x);
     row.iter().all(|edge| is_tight_by(scheme, entry, *edge))
-}
-
-/// Whether all entries of a node are closed.
-pub(crate) fn are_closed(graph: &Graph, scheme: &Scheme, x: u16) -> bool
-    requires { x < graph.now.nodes }
-    ensures { IsTrue result ↔ All (IsClosedAt graph.now (tables scheme.now) x) (entries_at scheme.now x) }
-{
-    let entries = scheme.entries_of(x);
-    entries
-        .iter()
-        .all(|entry| is_closed(graph, scheme, x, entry))
-}
-
-/// Whether all entries of a node are tight.
-pub(crate) fn are_tight(graph: &Graph, scheme: &Scheme, x: u16) -> bool
-    requires { x < graph.now.nodes }
-    ensures { IsTrue result ↔ All (IsTightAt graph.now (tables scheme.now) x) (entries_at scheme.now x) }
-{
-    let entries = scheme.entries_of(x);
-    entries
-        .iter()
-        .all(|entry| is_tight(graph, scheme, x, entry))
 }

@@ -1,13 +1,9 @@
 // The swift pass in several threads: each worker takes some ranges of the roots.
-ghost use Rattle.std.specs.Prelude.{◌≡◌, ◌<◌, ◌≤◌, ◌+◌, ◌*◌, ℕ, IfErr, IsTrue, OnOk, min};
-ghost use Rattle.std.specs.List.{All};
+ghost use Rattle.std.specs.Prelude.{◌≡◌, ◌<◌, ◌≤◌, ◌+◌, ◌*◌, ℕ, IfErr, IsTrue, OnOk, min, All};
+ghost use Rattle.certificate.specs.Words.{IsChecked, IsFirstFault, Serves, tables};
 ghost use Rattle.certificate.specs.Entries.{AllAscend};
 ghost use Rattle.certificate.specs.Faults.{IsExact, rule_of};
-ghost use Rattle.certificate.specs.Ranges.{HoldInPart, HoldOfAll};
-ghost use Rattle.certificate.specs.Trees.{IsTreeRight};
-ghost use Rattle.schemes.specs.Checks.{IsChecked, IsFirstFault};
-ghost use Rattle.schemes.specs.Service.{Serves};
-ghost use Rattle.schemes.specs.Tables.{tables};
+ghost use Rattle.certificate.specs.Trees.{HoldInPart, HoldOfAll, IsTreeRight};
 
 use crate::checks::answer;
 use crate::fault::Fault;

@@ -1,15 +1,9 @@
 // Labels: each by a climb from its node to the root, which meets the label's light ports from the last to the first. In the swift pass
 // those of a directory by the label of their node's parent there.
-ghost use Rattle.std.specs.Prelude.{◌≡◌, ◌==◌, ◌<◌, ◌↔◌, ℕ, IsTrue, MatchOption, List, Option, Some, None, false, slice_get};
-ghost use Rattle.std.specs.List.{All};
-ghost use Rattle.certificate.specs.Ahead.{IsAhead};
-ghost use Rattle.certificate.specs.Climbs.{AreAbove, AreLinked, HasLabelsAt, HasLights, HoldsFirst, IsHomeRight, IsLabelRight, IsLinked};
-ghost use Rattle.heavy_labels.specs.Label.{Label};
-ghost use Rattle.heavy_labels.specs.Numbering.{lights_at};
-ghost use Rattle.schemes.specs.Checks.{distance_of};
-ghost use Rattle.schemes.specs.Local.{IsLocalLabel, parent_of, record_at};
-ghost use Rattle.schemes.specs.Ports.{port_to};
-ghost use Rattle.schemes.specs.Tables.{directory_at, or_none, tables};
+ghost use Rattle.std.specs.Prelude.{◌≡◌, ◌==◌, ◌<◌, ◌↔◌, ℕ, IsTrue, MatchOption, List, Option, Some, None, false, slice_get, All};
+ghost use Rattle.certificate.specs.Words.{Label, lights_at, distance_of, IsLocalLabel, parent_of, record_at, port_to, directory_at, or_none, tables};
+ghost use Rattle.certificate.specs.Found.{IsAhead};
+ghost use Rattle.certificate.specs.Climbs.{AreAbove, HasLabelsAt, HasLights, HoldsFirst, IsHomeRight, IsLabelRight, IsLinked};
 
 use crate::places::{Ahead, entry_near};
 use graph_edits::Graph;
@@ -123,36 +117,10 @@ fn depth_near<'a>(scheme: &'a Scheme, ahead: &Ahead<'a>, root: u16, x: u16) -> u
     }
 }
 
-/// Whether the light ports of a label of u's directory are right by the label of its node's parent there. Its node's entry for u is
-/// this one.
-#[tactic(auto, unfolding(crate::specs::Climbs::AreLinked))]
-fn are_linked<'a>(
-    graph: &Graph,
-    scheme: &'a Scheme,
-    ahead: &Ahead<'a>,
-    u: u16,
-    listed: &Listed,
-    entry: &Entry,
-) -> bool
-    requires ahead { IsAhead scheme.now u ahead.now }
-    requires entry { (tables scheme.now).entry listed.now.node u ≡ Some entry.now }
-    ensures { IsTrue result → AreLinked graph.now (tables scheme.now) u listed.now.node listed.now.label.lights }
-{
-    let v = listed.node;
-    let lights = listed.label.lights();
-    let Some(y) = entry.parent() else {
-        return lights.is_empty();
-    };
-    let Some(label) = scheme.listed(u, y) else {
-        return false;
-    };
-    let is_heavy = entry.tree_record().light_depth == depth_near(scheme, ahead, u, y);
-    are_below(graph, v, y, is_heavy, lights, label.lights())
-}
-
-/// Whether a label of u's directory fits the one of its node's parent there.
+/// Whether a label of u's directory fits its node's record, and the label of its node's parent there. Where all do they are right, from
+/// the root down.
 #[tactic(auto, unfolding(crate::specs::Climbs::IsLinked))]
-fn is_linked<'a>(
+pub(crate) fn is_linked<'a>(
     graph: &Graph,
     scheme: &'a Scheme,
     ahead: &Ahead<'a>,
@@ -162,27 +130,23 @@ fn is_linked<'a>(
     requires ahead { IsAhead scheme.now u ahead.now }
     ensures { IsTrue result → IsLinked graph.now (tables scheme.now) u listed.now }
 {
-    let Some(entry) = entry_near(scheme, ahead, listed.node, u) else {
+    let v = listed.node;
+    let Some(entry) = entry_near(scheme, ahead, v, u) else {
         return true;
     };
-    listed.label.first() == entry.tree_record().first
-        && are_linked(graph, scheme, ahead, u, listed, entry)
-}
-
-/// Whether all labels of u's directory do: then they are right, from the root down.
-pub(crate) fn are_all_linked<'a>(
-    graph: &Graph,
-    scheme: &'a Scheme,
-    ahead: &Ahead<'a>,
-    u: u16,
-) -> bool
-    requires ahead { IsAhead scheme.now u ahead.now }
-    ensures { IsTrue result → All (IsLinked graph.now (tables scheme.now) u) (directory_at scheme.now u) }
-{
-    let directory = scheme.directory_of(u);
-    directory
-        .iter()
-        .all(|listed| is_linked(graph, scheme, ahead, u, listed))
+    let record = entry.tree_record();
+    if listed.label.first() != record.first {
+        return false;
+    }
+    let lights = listed.label.lights();
+    let Some(y) = entry.parent() else {
+        return lights.is_empty();
+    };
+    let Some(label) = scheme.listed(u, y) else {
+        return false;
+    };
+    let is_heavy = record.light_depth == depth_near(scheme, ahead, u, y);
+    are_below(graph, v, y, is_heavy, lights, label.lights())
 }
 
 /// Whether a label of u's directory is right, or of a node without an entry for u.
@@ -195,17 +159,6 @@ fn is_label_right(graph: &Graph, scheme: &Scheme, u: u16, listed: &Listed) -> bo
         Some(_) => is_label(graph, scheme, u, listed.node, &listed.label),
         None => true,
     }
-}
-
-/// Whether all labels of u's directory are right.
-fn are_labels_right(graph: &Graph, scheme: &Scheme, u: u16) -> bool
-    requires { HoldsFirst graph.now scheme.now }
-    ensures { IsTrue result ↔ All (IsLabelRight graph.now (tables scheme.now) u) (directory_at scheme.now u) }
-{
-    let directory = scheme.directory_of(u);
-    directory
-        .iter()
-        .all(|listed| is_label_right(graph, scheme, u, listed))
 }
 
 /// Whether a home label is right, or without a nearest landmark.
@@ -225,5 +178,9 @@ pub(crate) fn has_labels_at(graph: &Graph, scheme: &Scheme, u: u16) -> bool
     requires { HoldsFirst graph.now scheme.now }
     ensures { IsTrue result ↔ HasLabelsAt graph.now scheme.now u }
 {
-    are_labels_right(graph, scheme, u) && is_home_right(graph, scheme, u)
+    let directory = scheme.directory_of(u);
+    directory
+        .iter()
+        .all(|listed| is_label_right(graph, scheme, u, listed))
+        && is_home_right(graph, scheme, u)
 }

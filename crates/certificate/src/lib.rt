@@ -47,7 +47,6 @@ mod nearest;
 mod places;
 mod records;
 mod shape;
-mod sums;
 mod swift;
 
 pub use checks::check;

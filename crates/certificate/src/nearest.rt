@@ -1,9 +1,8 @@
 // Strict and Nearest: who is in a cluster's tree is nearer to its root than to every landmark, and a node's nearest landmark is the
 // least of its entries for landmarks.
-ghost use Rattle.std.specs.Prelude.{◌≡◌, ◌<◌, ◌↔◌, ℕ, IsTrue, false};
-ghost use Rattle.std.specs.List.{All};
+ghost use Rattle.std.specs.Prelude.{◌≡◌, ◌<◌, ◌↔◌, ℕ, IsTrue, false, All};
+ghost use Rattle.certificate.specs.Words.{entries_at, tables};
 ghost use Rattle.certificate.specs.Entries.{IsNearestAt, IsNoNearer, IsStrictAt, IsThere};
-ghost use Rattle.schemes.specs.Tables.{entries_at, tables};
 
 use schemes::{Entry, Near, Scheme};
 
@@ -17,13 +16,6 @@ pub(crate) fn is_strict(scheme: &Scheme, x: u16, entry: &Entry) -> bool
         Some(near) => entry.distance() < near.distance,
         None => true,
     }
-}
-
-pub(crate) fn are_strict(scheme: &Scheme, x: u16) -> bool
-    ensures { IsTrue result ↔ All (IsStrictAt (tables scheme.now) x) (entries_at scheme.now x) }
-{
-    let entries = scheme.entries_of(x);
-    entries.iter().all(|entry| is_strict(scheme, x, entry))
 }
 
 #[tactic(auto, unfolding(crate::specs::Entries::IsThere))]
@@ -48,31 +40,15 @@ fn is_no_nearer(scheme: &Scheme, near: Near, entry: &Entry) -> bool
         || near.distance == entry.distance() && near.landmark <= entry.root()
 }
 
-fn none_nearer(scheme: &Scheme, x: u16, near: Near) -> bool
-    ensures { IsTrue result ↔ All (IsNoNearer (tables scheme.now) near) (entries_at scheme.now x) }
-{
-    let entries = scheme.entries_of(x);
-    entries
-        .iter()
-        .all(|entry| is_no_nearer(scheme, near, entry))
-}
-
-fn has_no_landmark(scheme: &Scheme, x: u16) -> bool
-    ensures { IsTrue result ↔ All (λ e. (tables scheme.now).landmark e.root ≡ false) (entries_at scheme.now x) }
-{
-    let entries = scheme.entries_of(x);
-    entries
-        .iter()
-        .all(|entry| !scheme.is_landmark(entry.root()))
-}
-
 /// Whether a node's nearest landmark is right by its entries.
 #[tactic(auto, unfolding(crate::specs::Entries::IsNearestAt))]
 pub(crate) fn is_nearest(scheme: &Scheme, x: u16) -> bool
     ensures { IsTrue result ↔ IsNearestAt scheme.now x }
 {
+    let mut entries = scheme.entries_of(x).iter();
     match scheme.nearest(x) {
-        Some(near) => is_there(scheme, x, near) && none_nearer(scheme, x, near),
-        None => has_no_landmark(scheme, x),
+        Some(near) => is_there(scheme, x, near)
+            && entries.all(|entry| is_no_nearer(scheme, near, entry)),
+        None => entries.all(|entry| !scheme.is_landmark(entry.root())),
     }
 }

@@ -1,12 +1,9 @@
 // What is known of each node while roots are gone through in ascending order: a root below which it has no entry that is still to come,
 // and one of its entries, that for the root at which the pass is, if it has one.
 ghost use Rattle.std.specs.Prelude.{◌≡◌, ◌<◌, ◌≤◌, ◌+◌, ℕ, IsTrue, None, Some, length, slice_index};
-ghost use Rattle.std.specs.List.Sorted.{IsStrictlyIncreasing};
-ghost use Rattle.certificate.specs.Ahead.{AreEntries, AreNext, IsAhead};
+ghost use Rattle.certificate.specs.Words.{Parts, entries_at, first_entry, roots_of, tables, IsStrictlyIncreasing};
+ghost use Rattle.certificate.specs.Found.{AreEntries, AreNext, IsAhead, IsEntryOf};
 ghost use Rattle.certificate.specs.Entries.{AllAscend, AreBelow};
-ghost use Rattle.certificate.specs.Found.{IsEntryOf};
-ghost use Rattle.schemes.specs.declared.parts.Parts.{Parts};
-ghost use Rattle.schemes.specs.Tables.{entries_at, first_entry, roots_of, tables};
 
 use schemes::{Entry, Scheme};
 

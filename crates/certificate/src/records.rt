@@ -1,15 +1,10 @@
 // Records: each by those of its children, one pass over the ports of its node, from the last to the first.
-ghost use Rattle.std.specs.Prelude.{◌≡◌, ◌<◌, ◌+◌, ◌↔◌, ℕ, IsTrue, MatchOption, Some, None, List, slice_get};
-ghost use Rattle.std.specs.List.{All};
-ghost use Rattle.certificate.specs.Ahead.{IsAhead};
+ghost use Rattle.std.specs.Prelude.{◌≡◌, ◌<◌, ◌+◌, ◌↔◌, ℕ, IsTrue, MatchOption, Some, None, List, slice_get, All};
+ghost use Rattle.certificate.specs.Words.{neighbours_of, record_of, parent_is, FitsRoot, record_at, Tables, entries_at, tables};
+ghost use Rattle.certificate.specs.Found.{IsAhead, IsChildOf, IsEntryOf};
 ghost use Rattle.certificate.specs.Entries.{IsEntryShaped, IsRightOver};
-ghost use Rattle.certificate.specs.Found.{IsChildOf, IsEntryOf};
 ghost use Rattle.certificate.specs.Rows.{AreChildrenFit, FitsAt, IsPorted, IsSwept, IsWidest, LeadsTo, StartNowhere, StartsAt, behind as behind_port, but, with_child};
-ghost use Rattle.graph_edits.specs.Edges.{neighbours_of};
-ghost use Rattle.heavy_labels.specs.Stepped.{record_of};
-ghost use Rattle.schemes.specs.Checks.{parent_is};
-ghost use Rattle.schemes.specs.Local.{FitsRoot, record_at, span as span_of};
-ghost use Rattle.schemes.specs.Tables.{Tables, entries_at, tables};
+ghost use Rattle.schemes.specs.Local.{span as span_of};
 
 use crate::edges::is_right_over;
 use crate::places::{Ahead, entry_near};
@@ -164,21 +159,8 @@ fn leads_to<'a>(scheme: &'a Scheme, ahead: &Ahead<'a>, entry: &Entry, heavy: Opt
         && child.last == record.heavy_last
 }
 
-/// Whether the record of an entry of x fits those of its children, and each edge is right for the entry.
-#[tactic(auto, unfolding(crate::specs::Rows::FitsAt))]
-fn fits<'a>(graph: &Graph, scheme: &'a Scheme, ahead: &Ahead<'a>, x: u16, entry: &Entry) -> bool
-    requires inside { x < graph.now.nodes }
-    requires ahead { IsAhead scheme.now entry.now.root ahead.now }
-    ensures { IsTrue result
-        ↔ (All (IsRightOver (tables scheme.now) entry.now) (neighbours_of graph.now x)
-        × FitsAt graph.now (tables scheme.now) x entry.now) }
-{
-    let heavy = behind(graph, x, entry.tree_record().heavy_port);
-    are_children_fit(graph, scheme, ahead, x, entry, heavy) && leads_to(scheme, ahead, entry, heavy)
-}
-
 /// Whether Shape, Edges, Parents and Records hold of one entry of x. Children's ports aren't looked at: each entry's own is.
-#[tactic(auto, unfolding(crate::specs::Rows::IsSwept))]
+#[tactic(auto, unfolding(crate::specs::Rows::IsSwept, crate::specs::Rows::FitsAt))]
 pub(crate) fn is_swept<'a>(
     graph: &Graph,
     scheme: &'a Scheme,
@@ -190,28 +172,19 @@ pub(crate) fn is_swept<'a>(
     requires ahead { IsAhead scheme.now entry.now.root ahead.now }
     ensures { IsTrue result ↔ IsSwept graph.now (tables scheme.now) x entry.now }
 {
+    let heavy = behind(graph, x, entry.tree_record().heavy_port);
     is_entry_shaped(graph, scheme, ahead, x, entry)
         && is_ported(graph, x, entry)
-        && fits(graph, scheme, ahead, x, entry)
+        && are_children_fit(graph, scheme, ahead, x, entry, heavy)
+        && leads_to(scheme, ahead, entry, heavy)
 }
 
 /// The same where nothing is known ahead: look-ups search.
-fn is_swept_alone(graph: &Graph, scheme: &Scheme, x: u16, entry: &Entry) -> bool
+pub(crate) fn is_swept_alone(graph: &Graph, scheme: &Scheme, x: u16, entry: &Entry) -> bool
     requires { x < graph.now.nodes }
     ensures { IsTrue result ↔ IsSwept graph.now (tables scheme.now) x entry.now }
 {
     is_swept(graph, scheme, &Ahead::nothing(), x, entry)
-}
-
-/// The same of every entry of a node.
-pub(crate) fn are_swept(graph: &Graph, scheme: &Scheme, x: u16) -> bool
-    requires inside { x < graph.now.nodes }
-    ensures { IsTrue result ↔ All (IsSwept graph.now (tables scheme.now) x) (entries_at scheme.now x) }
-{
-    let entries = scheme.entries_of(x);
-    entries
-        .iter()
-        .all(|entry| is_swept_alone(graph, scheme, x, entry))
 }
 
 /// Whether a root's record of itself is that of a root. Where it has none there is nothing to fit.

@@ -1,11 +1,8 @@
 // Shape: the lists have a place for each node, the ports are the graph's, and entries ascend, with parents.
-ghost use Rattle.std.specs.Prelude.{◌≡◌, ◌≢◌, ◌<◌, ◌↔◌, ℕ, IsTrue, IsSome, map};
-ghost use Rattle.std.specs.List.{All};
-ghost use Rattle.std.specs.List.Sorted.{IsStrictlyIncreasing};
-ghost use Rattle.certificate.specs.Ahead.{IsAhead};
+ghost use Rattle.std.specs.Prelude.{◌≡◌, ◌≢◌, ◌<◌, ◌↔◌, ℕ, IsTrue, IsSome, map, All};
+ghost use Rattle.certificate.specs.Words.{IsSound, entries_at, roots_of, tables, IsStrictlyIncreasing};
+ghost use Rattle.certificate.specs.Found.{IsAhead};
 ghost use Rattle.certificate.specs.Entries.{AllAscend, HasOwn, HasParentAt, HasPlaces, IsEntryShaped, IsFramed, IsNodeFramed};
-ghost use Rattle.graph_edits.specs.Edges.{IsSound};
-ghost use Rattle.schemes.specs.Tables.{entries_at, roots_of, tables};
 
 use crate::places::{Ahead, entry_near};
 use graph_edits::Graph;
@@ -49,23 +46,17 @@ fn has_own(scheme: &Scheme, x: u16) -> bool
     }
 }
 
-/// Whether all roots of a node's entries are nodes.
-fn are_inside(scheme: &Scheme, nodes: u16, x: u16) -> bool
-    ensures { IsTrue result ↔ All (λ e. e.root < nodes) (entries_at scheme.now x) }
-{
-    let entries = scheme.entries_of(x);
-    entries.iter().all(|entry| entry.root() < nodes)
-}
-
 #[tactic(auto, unfolding(crate::specs::Entries::IsNodeFramed))]
 fn is_node_framed(graph: &Graph, scheme: &Scheme, x: u16) -> bool
     requires { x < graph.now.nodes }
     ensures { IsTrue result ↔ IsNodeFramed graph.now scheme.now x }
 {
+    let nodes = graph.nodes();
+    let entries = scheme.entries_of(x);
     are_ports(scheme.ports_of(x), graph.neighbours(x))
         && scheme.has_ascending_roots(x)
         && has_own(scheme, x)
-        && are_inside(scheme, graph.nodes(), x)
+        && entries.iter().all(|entry| entry.root() < nodes)
 }
 
 /// Whether all of Shape holds but for the parents of entries.
@@ -108,18 +99,8 @@ pub(crate) fn is_entry_shaped<'a>(
 }
 
 /// The same where nothing is known ahead: look-ups search.
-fn is_entry_shaped_alone(graph: &Graph, scheme: &Scheme, x: u16, entry: &Entry) -> bool
+pub(crate) fn is_entry_shaped_alone(graph: &Graph, scheme: &Scheme, x: u16, entry: &Entry) -> bool
     ensures { IsTrue result ↔ IsEntryShaped graph.now (tables scheme.now) x entry.now }
 {
     is_entry_shaped(graph, scheme, &Ahead::nothing(), x, entry)
-}
-
-/// The same of every entry of a node.
-pub(crate) fn are_shaped(graph: &Graph, scheme: &Scheme, x: u16) -> bool
-    ensures { IsTrue result ↔ All (IsEntryShaped graph.now (tables scheme.now) x) (entries_at scheme.now x) }
-{
-    let entries = scheme.entries_of(x);
-    entries
-        .iter()
-        .all(|entry| is_entry_shaped_alone(graph, scheme, x, entry))
 }

@@ -2,19 +2,15 @@
 // roots, so the next one of a node is known by a place that goes along. Before each root the entries at the places are gathered, so that
 // those of neighbours are looked up in one list. What the pass takes for right is right. Which rule fails first where it finds a fault is
 // told by the check of each.
-ghost use Rattle.std.specs.Prelude.{◌≡◌, ◌<◌, ◌≤◌, ◌+◌, ℕ, IfSome, IsTrue, IsSome, false, get_or, length, slice_index, true};
-ghost use Rattle.std.specs.List.{All};
-ghost use Rattle.std.specs.List.Sorted.{IsStrictlyIncreasing};
-ghost use Rattle.certificate.specs.Ahead.{AreEntries, AreNext, IsAhead};
+ghost use Rattle.std.specs.Prelude.{◌≡◌, ◌<◌, ◌≤◌, ◌+◌, ℕ, IfSome, IsTrue, IsSome, false, get_or, length, nat_lt, slice_index, true, All};
+ghost use Rattle.certificate.specs.Words.{FitsRoot, directory_at, entries_at, roots_of, tables, IsStrictlyIncreasing};
+ghost use Rattle.certificate.specs.Found.{AreEntries, AreNext, IsAhead};
 ghost use Rattle.certificate.specs.Climbs.{HoldsFirst, IsHomeRight, IsLinked};
 ghost use Rattle.certificate.specs.Entries.{AllAscend, AreBelow, HasOrderAt, IsListedRight, IsNearestAt};
-ghost use Rattle.certificate.specs.Ranges.{HoldBetween};
-ghost use Rattle.certificate.specs.Trees.{ArePast, GoOn, IsRootRight, IsTreeRight};
-ghost use Rattle.schemes.specs.Local.{FitsRoot};
-ghost use Rattle.schemes.specs.Tables.{directory_at, entries_at, roots_of, tables};
+ghost use Rattle.certificate.specs.Trees.{HoldBetween, ArePast, GoOn, IsRootRight, IsTreeRight};
 
 use crate::directories::has_order;
-use crate::labels::{are_all_linked, is_home_right};
+use crate::labels::{is_home_right, is_linked};
 use crate::nearest::{is_nearest, is_strict};
 use crate::places::{Ahead, kept, put_entry, put_next};
 use crate::records::{fits_root, is_swept};
@@ -91,31 +87,7 @@ fn sweep_nodes<'a>(
     true
 }
 
-/// The same of all nodes that a root lists.
-fn sweep_listed<'a>(
-    graph: &Graph,
-    scheme: &'a Scheme,
-    places: &mut [u16],
-    ahead: &Ahead<'a>,
-    root: u16,
-) -> bool
-    requires ascend { AllAscend scheme.now }
-    requires ahead { IsAhead scheme.now root ahead.now }
-    requires room { graph.now.nodes ≤ length places.old }
-    ensures on { GoOn graph.now scheme.now places.old places.new }
-    ensures there { IsTrue result
-        → All (λ e. IsSome ((tables scheme.now).entry e.node root)) (directory_at scheme.now root) }
-{
-    for listed in scheme.directory_of(root) {
-        let x = listed.node;
-        if x >= graph.nodes() || !sweep(graph, scheme, places, ahead, x, root) {
-            return false;
-        }
-    }
-    true
-}
-
-/// The same of all members of a root's tree. A landmark lists none.
+/// The same of all members of a root's tree: the nodes that the root lists. A landmark lists none.
 #[tactic(auto, unfolding(crate::specs::Entries::IsListedRight))]
 fn sweep_members<'a>(
     graph: &Graph,
@@ -134,23 +106,13 @@ fn sweep_members<'a>(
         return scheme.directory_of(root).is_empty()
             && sweep_nodes(graph, scheme, places, ahead, root);
     }
-    sweep_listed(graph, scheme, places, ahead, root)
-}
-
-/// Whether what is said of a node alone is right, as of a root and as of a node.
-fn is_root_right<'a>(graph: &Graph, scheme: &'a Scheme, ahead: &Ahead<'a>, x: u16) -> bool
-    requires { IsAhead scheme.now x ahead.now }
-    ensures root { IsTrue result → FitsRoot (tables scheme.now) x }
-    ensures nearest { IsTrue result → IsNearestAt scheme.now x }
-    ensures order { IsTrue result → HasOrderAt scheme.now x }
-    ensures linked { IsTrue result → All (IsLinked graph.now (tables scheme.now) x) (directory_at scheme.now x) }
-    ensures home { IsTrue result → HoldsFirst graph.now scheme.now → IsHomeRight graph.now scheme.now x }
-{
-    fits_root(scheme, x)
-        && is_nearest(scheme, x)
-        && has_order(scheme, x)
-        && are_all_linked(graph, scheme, ahead, x)
-        && is_home_right(graph, scheme, x)
+    for listed in scheme.directory_of(root) {
+        let x = listed.node;
+        if x >= graph.nodes() || !sweep(graph, scheme, places, ahead, x, root) {
+            return false;
+        }
+    }
+    true
 }
 
 /// Whether the tree of a root is right, and what is said of the root alone.
@@ -167,7 +129,13 @@ fn sweep_tree<'a>(
     ensures on { GoOn graph.now scheme.now places.old places.new }
     ensures root { IsTrue result → IsRootRight graph.now scheme.now root }
 {
-    sweep_members(graph, scheme, places, ahead, root) && is_root_right(graph, scheme, ahead, root)
+    let mut directory = scheme.directory_of(root).iter();
+    sweep_members(graph, scheme, places, ahead, root)
+        && fits_root(scheme, root)
+        && is_nearest(scheme, root)
+        && has_order(scheme, root)
+        && directory.all(|listed| is_linked(graph, scheme, ahead, root, listed))
+        && is_home_right(graph, scheme, root)
 }
 
 /// Keeps for each member of a root's tree the entry at its place.
@@ -218,18 +186,11 @@ fn place_for(entries: &[Entry], root: u16) -> usize
     requires { IsStrictlyIncreasing (roots_of entries.now) }
     ensures { AreBelow root result entries.now }
 {
-    let mut low = 0;
-    let mut high = entries.len();
-    while low < high {
-        let middle = low + (high - low) / 2;
-        let there = entries[middle].root();
-        if there < root {
-            low = middle + 1;
-        } else {
-            high = middle;
-        }
-    }
-    low
+    entries.partition_point(
+        |entry: &Entry| -> bool
+            ensures { result ≡ nat_lt entry.now.root root }
+        { entry.root() < root },
+    )
 }
 
 /// Such a place for each node, and the root there.

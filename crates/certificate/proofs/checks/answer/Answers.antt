@@ -1,10 +1,7 @@
-use Rattle.std.proofs.Common.{arith}
-use Rattle.std.proofs.lemmas.Bool.{iff_false}
-use Rattle.schemes.proofs.Serving.CheckedLaw.{checked_serves}
+use Rattle.certificate.proofs.Words.{arith, iff_false, checked_serves, rule_of}
 use Rattle.certificate.specs.declared.fault.Fault.TheVariants.{Shape}
-use Rattle.certificate.specs.Faults.{rule_of}
 use Rattle.certificate.proofs.FirstRules.{frame_from}
-use Rattle.certificate.proofs.Verdict.{all_eight, exact_fault, exact_ok, to_next, to_none}
+use Rattle.certificate.proofs.Rules.{all_eight, exact_fault, exact_ok, to_next, to_none}
 use Rattle.certificate.proofs.checks.answer.Goals as goal
 
 pub returns-then-is_sound-clause-exact : goal.returns-then-is_sound-clause-exact

@@ -1,4 +1,4 @@
-use Rattle.certificate.specs.Rules.{HoldsTo}
+use Rattle.certificate.proofs.Words.{HoldsTo}
 use Rattle.certificate.proofs.checks.answer.Given as goal
 
 abbrev pub invariant-loop-i : goal.invariant-loop-i

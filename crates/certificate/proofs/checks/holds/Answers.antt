@@ -1,7 +1,4 @@
-use Rattle.std.proofs.Common.{arith}
-use Rattle.std.proofs.lemmas.Bool.{iff_false}
-use Rattle.certificate.specs.Faults.{rule_of}
-use Rattle.certificate.proofs.Found.{refused, accepted}
+use Rattle.certificate.proofs.Words.{arith, iff_false, rule_of, refused, accepted}
 use Rattle.certificate.proofs.Rules.{rule}
 use Rattle.certificate.proofs.checks.holds.Goals as goal
 

@@ -1,6 +1,4 @@
-use Rattle.std.proofs.Common.{◌<◌, ℕ}
-use Rattle.certificate.specs.Faults.{rule_of}
-use Rattle.certificate.specs.Rules.{HoldsAt}
+use Rattle.certificate.proofs.Words.{◌<◌, ℕ, rule_of, HoldsAt}
 use Rattle.certificate.proofs.checks.holds.Given as goal
 
 abbrev pub invariant-loop-x : goal.invariant-loop-x

@@ -1,4 +1,4 @@
-use Rattle.std.proofs.Common.{arith}
+use Rattle.certificate.proofs.Words.{arith}
 use Rattle.certificate.proofs.TreeLemmas.{trees_checked}
 use Rattle.certificate.proofs.checks.is_sound.Goals as goal
 

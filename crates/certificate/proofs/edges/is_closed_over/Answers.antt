@@ -1,8 +1,4 @@
-use Rattle.std.proofs.Common.{◌≤◌, ◌+◌, ◌≡◌, subst}
-use Rattle.std.specs.Prelude.{MatchOption, Some, None}
-use Rattle.schemes.specs.Tables.{tables}
-use Rattle.certificate.specs.Entries.{IsClosedOver}
-use Rattle.certificate.proofs.Found.{found_first}
+use Rattle.certificate.proofs.Words.{◌≤◌, ◌+◌, ◌≡◌, subst, MatchOption, Some, None, tables, IsClosedOver, found_first}
 use Rattle.certificate.proofs.edges.is_closed_over.Goals as goal
 
 pub returns-in-Some : goal.returns-in-Some

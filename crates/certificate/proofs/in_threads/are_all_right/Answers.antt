@@ -1,6 +1,4 @@
-use Rattle.std.proofs.Common.{arith, sym, subst}
-use Rattle.std.specs.Prelude.{IsTrue, false}
-use Rattle.certificate.specs.Trees.{IsTreeRight}
+use Rattle.certificate.proofs.Words.{arith, sym, subst, IsTrue, false, IsTreeRight}
 use Rattle.certificate.proofs.Ranges.{in_all_ranges}
 use Rattle.certificate.proofs.in_threads.are_all_right.Goals as goal
 

@@ -1,5 +1,4 @@
-use Rattle.std.proofs.Common.{◌≡◌, ◌+◌, ◌*◌, min, subst}
-use Rattle.certificate.specs.Trees.{IsTreeRight}
+use Rattle.certificate.proofs.Words.{◌≡◌, ◌+◌, ◌*◌, min, subst, IsTreeRight}
 use Rattle.certificate.proofs.Ranges.{in_range}
 use Rattle.certificate.proofs.in_threads.are_right_in.Goals as goal
 

@@ -1,9 +1,5 @@
-use Rattle.std.proofs.Common.{arith, ◌≡◌, [], sym, ◌∙◌, rules}
-use Rattle.std.specs.Prelude.{◌↔◌, IsTrue}
-use Rattle.schemes.specs.Tables.{tables}
-use Rattle.certificate.specs.Climbs.{HasLights, lights_up}
-use Rattle.certificate.proofs.ClimbLemmas.{distances_first, climb_falls, empty_test, lights_end, lights_of_tree, step_by}
-use Rattle.certificate.proofs.Found.{refused}
+use Rattle.certificate.proofs.Words.{arith, refl, ◌≡◌, [], sym, ◌∙◌, rules, ◌↔◌, IsTrue, tables, HasLights, lights_up, refused}
+use Rattle.certificate.proofs.LabelLemmas.{distances_first, climb_falls, empty_test, lights_end, lights_of_tree, lights_step}
 use Rattle.certificate.proofs.labels.are_lights.Goals as goal
 
 pub returns-then-there-here : goal.returns-then-there-here
@@ -16,7 +12,7 @@ unfolding HasLights
 returns-in-None c h = refused (λ e. (
     let m = c.args.graph.now in
     let p = c.args.scheme.now in
-    let step = step_by m (tables p) (distances_first m p h) c.args.root c.loop-here.at c.in-Some.above _ _ (sym c.in-Some.is ∙ c.loop-here.invariant.parent) c.loop-here.invariant.depth c.rung-there.ensures.depth in
+    let step = lights_step m (tables p) (distances_first m p h) c.args.root c.loop-here.at c.in-Some.above _ _ _ (sym c.in-Some.is ∙ c.loop-here.invariant.parent) c.loop-here.invariant.depth c.rung-there.ensures.depth refl in
     c.in-None.ensures _ ((c.loop-here.invariant.climbed h).0 (e ∙ sym (lights_of_tree m p h c.args.root c.args.v)) ∙ step)))
 
 pub loop-here-preserved : goal.loop-here-preserved
@@ -27,7 +23,7 @@ loop-here-preserved c = record {
   climbed = λ h. (
       let m = c.args.graph.now in
       let p = c.args.scheme.now in
-      let step = step_by m (tables p) (distances_first m p h) c.args.root c.loop-here.at c.in-Some.above _ _ (sym c.in-Some.is ∙ c.loop-here.invariant.parent) c.loop-here.invariant.depth c.rung-there.ensures.depth in
+      let step = lights_step m (tables p) (distances_first m p h) c.args.root c.loop-here.at c.in-Some.above _ _ _ (sym c.in-Some.is ∙ c.loop-here.invariant.parent) c.loop-here.invariant.depth c.rung-there.ensures.depth refl in
       let before = c.loop-here.invariant.climbed h in
       let turn = c.in-Some-climbed.ensures (lights_up m (tables p) c.args.root c.in-Some.above) in
       (λ e. turn.0 (before.0 e ∙ step), λ e. before.1 (turn.1 e ∙ sym step)));

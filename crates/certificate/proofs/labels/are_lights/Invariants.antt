@@ -1,9 +1,4 @@
-use Rattle.std.proofs.Common.{◌≡◌}
-use Rattle.std.specs.Prelude.{◌↔◌}
-use Rattle.certificate.specs.Climbs.{HoldsFirst, lights_up}
-use Rattle.schemes.specs.Tables.{tables}
-use Rattle.schemes.specs.Local.{parent_of, record_at}
-use Rattle.schemes.specs.Checks.{distance_of}
+use Rattle.certificate.proofs.Words.{◌≡◌, ◌↔◌, HoldsFirst, lights_up, tables, parent_of, record_at, distance_of}
 use Rattle.certificate.proofs.labels.are_lights.Given as goal
 
 abbrev pub invariant-loop-here : goal.invariant-loop-here

@@ -1,6 +1,4 @@
-use Rattle.std.proofs.Common.{◌≡◌, rules}
-use Rattle.certificate.proofs.Found.{found, and_more}
-use Rattle.certificate.specs.Entries.{IsThere}
+use Rattle.certificate.proofs.Words.{◌≡◌, rules, found, and_more, IsThere}
 use Rattle.certificate.proofs.nearest.is_there.Goals as goal
 
 pub returns-in-Some : goal.returns-in-Some

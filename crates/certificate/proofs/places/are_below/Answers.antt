@@ -1,7 +1,5 @@
-use Rattle.std.proofs.Common.{◌-◌, ◌<◌, arith}
+use Rattle.certificate.proofs.Words.{◌-◌, ◌<◌, arith, Entry, key_there}
 use Rattle.std.proofs.lemmas.Bool.Decides.{nat_tests}
-use Rattle.schemes.specs.Entry.{Entry}
-use Rattle.schemes.proofs.Basics.Searches.{key_there}
 use Rattle.certificate.proofs.LookUps.{below_place}
 use Rattle.certificate.proofs.places.are_below.Goals as goal
 

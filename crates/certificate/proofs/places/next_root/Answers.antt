@@ -1,6 +1,4 @@
-use Rattle.std.proofs.Common.{arith}
-use Rattle.schemes.specs.Entry.{Entry}
-use Rattle.schemes.proofs.Basics.Searches.{key_there}
+use Rattle.certificate.proofs.Words.{arith, Entry, key_there}
 use Rattle.certificate.proofs.LookUps.{nowhere}
 use Rattle.certificate.proofs.places.next_root.Goals as goal
 

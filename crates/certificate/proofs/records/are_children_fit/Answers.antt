@@ -1,13 +1,5 @@
-use Rattle.std.proofs.Common.{◌≡◌, ◌+◌, ◌-◌, ◌<◌, ◌∙◌, ap, arith, subst, sym, length, map, drop, get_or, rules}
-use Rattle.std.specs.Prelude.{◌↔◌, IsTrue}
-use Rattle.std.proofs.lemmas.Bool.{eqb-true}
-use Rattle.std.specs.List.{All}
+use Rattle.certificate.proofs.Words.{◌≡◌, ◌+◌, ◌-◌, ◌<◌, ◌∙◌, ap, arith, subst, sym, length, map, drop, get_or, rules, ◌↔◌, IsTrue, eqb-true, All, neighbours_of, tables, IsRightOver, AreChildrenFit, AreNumbered, IsWidest, StartsAt, but, children_among, with_child, refused}
 use Rattle.heavy_labels.specs.declared.tree_record.Record.{Record}
-use Rattle.graph_edits.specs.Edges.{neighbours_of}
-use Rattle.schemes.specs.Tables.{tables}
-use Rattle.certificate.specs.Entries.{IsRightOver}
-use Rattle.certificate.specs.Rows.{AreChildrenFit, AreNumbered, IsWidest, StartsAt, but, children_among, with_child}
-use Rattle.certificate.proofs.Found.{refused}
 use Rattle.certificate.proofs.RowLemmas.{children_more, each_more, fit_at_front, rest_numbered}
 use Rattle.certificate.proofs.records.are_children_fit.Goals as goal
 

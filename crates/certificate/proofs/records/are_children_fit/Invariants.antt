@@ -1,7 +1,4 @@
-use Rattle.std.proofs.Common.{◌+◌, ◌<◌, ◌≤◌, ℕ, length, map, drop, get_or}
-use Rattle.schemes.specs.Tables.{tables}
-use Rattle.certificate.specs.Entries.{IsRightOver}
-use Rattle.certificate.specs.Rows.{IsWidest, StartsAt, but, children_among}
+use Rattle.certificate.proofs.Words.{◌+◌, ◌<◌, ◌≤◌, ℕ, length, map, drop, get_or, tables, IsRightOver, IsWidest, StartsAt, but, children_among}
 use Rattle.certificate.proofs.records.are_children_fit.Given as goal
 
 abbrev pub invariant-loop-left : goal.invariant-loop-left

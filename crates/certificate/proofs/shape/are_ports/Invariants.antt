@@ -1,4 +1,4 @@
-use Rattle.std.proofs.Common.{◌≡◌, ℕ, ◌<◌, get_or}
+use Rattle.certificate.proofs.Words.{◌≡◌, ℕ, ◌<◌, get_or}
 use Rattle.certificate.proofs.shape.are_ports.Given as goal
 
 abbrev pub invariant-loop-i : goal.invariant-loop-i

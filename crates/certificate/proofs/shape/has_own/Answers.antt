@@ -1,7 +1,4 @@
-use Rattle.std.proofs.Common.{◌≡◌, ◌∙◌, rules, sym}
-use Rattle.std.specs.Prelude.{None}
-use Rattle.certificate.proofs.Found.{found, and_more}
-use Rattle.certificate.specs.Entries.{HasOwn}
+use Rattle.certificate.proofs.Words.{◌≡◌, ◌∙◌, rules, sym, None, found, and_more, HasOwn}
 use Rattle.certificate.proofs.shape.has_own.Goals as goal
 
 pub returns-then-distance-eq0 : goal.returns-then-distance-eq0

@@ -1,7 +1,4 @@
-use Rattle.std.proofs.Common.{arith, subst, sym}
-use Rattle.std.proofs.lemmas.Bool.{iff_false}
-use Rattle.certificate.specs.Entries.{HasPlaces, IsFramed}
-use Rattle.certificate.proofs.Found.{refused, accepted}
+use Rattle.certificate.proofs.Words.{arith, subst, sym, iff_false, HasPlaces, IsFramed, refused, accepted}
 use Rattle.certificate.proofs.LookUps.{framed_ascend}
 use Rattle.certificate.proofs.shape.is_framed.Goals as goal
 

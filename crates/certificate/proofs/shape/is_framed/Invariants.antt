@@ -1,5 +1,4 @@
-use Rattle.std.proofs.Common.{ℕ, ◌<◌}
-use Rattle.certificate.specs.Entries.{IsNodeFramed}
+use Rattle.certificate.proofs.Words.{ℕ, ◌<◌, IsNodeFramed}
 use Rattle.certificate.proofs.shape.is_framed.Given as goal
 
 abbrev pub invariant-loop-x : goal.invariant-loop-x

@@ -1,4 +1,4 @@
-use Rattle.certificate.specs.Trees.{ArePast}
+use Rattle.certificate.proofs.Words.{ArePast}
 use Rattle.certificate.proofs.swift.are_past.Given as goal
 
 abbrev pub invariant-loop-x : goal.invariant-loop-x

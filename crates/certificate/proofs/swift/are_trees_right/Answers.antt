@@ -1,10 +1,4 @@
-use Rattle.std.proofs.Common.{◌≡◌, ◌<◌, ◌∙◌, ℕ, ap, arith, inl, inr, subst, sym, length, get_or}
-use Rattle.std.proofs.Math.ListN.{replicate}
-use Rattle.std.specs.Prelude.{slice_index}
-use Rattle.std.proofs.lemmas.Bool.{cases_eq}
-use Rattle.std.proofs.lemmas.List.{get_or-replicate, length-replicate}
-use Rattle.schemes.specs.Entry.{Entry}
-use Rattle.certificate.specs.Trees.{IsRootRight}
+use Rattle.certificate.proofs.Words.{◌≡◌, ◌<◌, ◌∙◌, ℕ, ap, arith, inl, inr, subst, sym, length, get_or, replicate, slice_index, cases_eq, get_or-replicate, length-replicate, Entry, IsRootRight}
 use Rattle.certificate.proofs.LookUps.{kept_nought}
 use Rattle.certificate.proofs.TreeLemmas.{right_first, right_last}
 use Rattle.certificate.proofs.swift.are_trees_right.Goals as goal

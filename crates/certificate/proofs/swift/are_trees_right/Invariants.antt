@@ -1,6 +1,4 @@
-use Rattle.certificate.specs.Trees.{AreRightTo, IsRootRight}
-use Rattle.certificate.specs.Ahead.{AreEntries, AreNext}
-use Rattle.certificate.specs.Ranges.{HoldBetween}
+use Rattle.certificate.proofs.Words.{AreRightTo, IsRootRight, AreEntries, AreNext, HoldBetween}
 use Rattle.certificate.proofs.swift.are_trees_right.Given as goal
 
 abbrev pub invariant-loop-root : goal.invariant-loop-root

@@ -1,15 +1,13 @@
-use Rattle.std.proofs.Common.{arith}
-use Rattle.schemes.specs.Entry.{Entry}
-use Rattle.schemes.proofs.Basics.Searches.{key_there}
-use Rattle.certificate.proofs.LookUps.{below_place}
+use Rattle.std.proofs.lemmas.List.Sorted.{IsPartitionPoint-from_clause, IsPartitionedBy-ltb}
+use Rattle.std.proofs.Common.{ltb, ltb-true}
+use Rattle.certificate.proofs.Words.{arith, rules, Entry, key_at}
+use Rattle.certificate.proofs.LookUps.{below_all, roots_rise}
 use Rattle.certificate.proofs.swift.place_for.Goals as goal
 
-pub loop-low-preserved-then-there-root : goal.loop-low-preserved-then-there-root
-loop-low-preserved-then-there-root c =
-    let v = c.loop-low.invariant in
-    let key = key_there (λ (z : Entry). z.root) c.args.entries.now _ c.index-entries-middle.result c.root-there.result (omega (arith, v.within, c.loop-low-test.true)) c.index-entries-middle.is c.root-there.ensures in
-    record {
-      order = omega (arith, c.loop-low-test.true);
-      within = v.within;
-      below = below_place c.args.entries.now c.args.root _ c.requires (omega (arith, v.within, c.loop-low-test.true)) (omega (arith, key, c.if-there-root.true));
-    }
+pub returns : goal.returns
+returns c =
+    let es = c.args.entries.now in
+    let parted = IsPartitionedBy-ltb (λ (e : Entry). e.root) es c.args.root (λ i j d le l.
+    (let a = roots_rise es c.requires i j le l in let low = key_at (λ (e : Entry). e.root) es i d (omega (arith, le, l)) in let high = key_at (λ (e : Entry). e.root) es j d l in omega (arith, a, low, high))) in
+    let point = IsPartitionPoint-from_clause (λ (e : Entry). ltb e.root c.args.root) _ _ c.partition_point.ensures.partitioned parted (λ a r q k. search rules) in
+    below_all es c.args.root _ c.partition_point.ensures.bound (λ k d l. ltb-true _ _ (point.0 k d (omega arith) l))

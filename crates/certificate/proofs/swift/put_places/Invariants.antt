@@ -1,8 +1,4 @@
-use Rattle.std.proofs.Common.{◌≡◌, ◌<◌, ℕ, length}
-use Rattle.std.specs.Prelude.{slice_index}
-use Rattle.schemes.specs.Tables.{entries_at}
-use Rattle.certificate.specs.Ahead.{AreNext}
-use Rattle.certificate.specs.Entries.{AreBelow}
+use Rattle.certificate.proofs.Words.{◌≡◌, ◌<◌, ℕ, length, slice_index, entries_at, AreNext, AreBelow}
 use Rattle.certificate.proofs.swift.put_places.Given as goal
 
 abbrev pub invariant-loop-x : goal.invariant-loop-x

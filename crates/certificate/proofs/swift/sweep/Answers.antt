@@ -1,8 +1,4 @@
-use Rattle.std.proofs.Common.{◌≡◌, ◌∙◌, ap, arith, get_or, subst, sym}
-use Rattle.std.specs.Prelude.{Some, slice_index}
-use Rattle.schemes.specs.Entry.{Entry}
-use Rattle.schemes.specs.Tables.{entries_at, first_entry}
-use Rattle.schemes.proofs.Basics.Options.{some_is}
+use Rattle.certificate.proofs.Words.{◌≡◌, ◌∙◌, ap, arith, get_or, subst, sym, Some, slice_index, Entry, entries_at, first_entry, some_is}
 use Rattle.certificate.proofs.LookUps.{found_at}
 use Rattle.certificate.proofs.TreeLemmas.{gone_on}
 use Rattle.certificate.proofs.swift.sweep.Goals as goal

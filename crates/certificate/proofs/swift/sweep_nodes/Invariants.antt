@@ -1,4 +1,4 @@
-use Rattle.certificate.specs.Trees.{GoOn}
+use Rattle.certificate.proofs.Words.{GoOn}
 use Rattle.certificate.proofs.swift.sweep_nodes.Given as goal
 
 abbrev pub invariant-loop-x : goal.invariant-loop-x

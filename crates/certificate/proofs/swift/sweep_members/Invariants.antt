@@ -1,9 +1,5 @@
-use Rattle.std.proofs.Common.{◌<◌, ℕ, get_or}
-use Rattle.std.specs.Prelude.{IsSome}
-use Rattle.schemes.specs.declared.parts.Listed.{Listed}
-use Rattle.schemes.specs.Tables.{directory_at, tables}
-use Rattle.certificate.specs.Trees.{GoOn}
-use Rattle.certificate.proofs.swift.sweep_listed.Given as goal
+use Rattle.certificate.proofs.Words.{◌<◌, ℕ, get_or, IsSome, Listed, directory_at, tables, GoOn}
+use Rattle.certificate.proofs.swift.sweep_members.Given as goal
 
 abbrev pub invariant-loop-listed : goal.invariant-loop-listed
 invariant-loop-listed l = record {

@@ -1,14 +1,8 @@
-use Rattle.std.proofs.Common.{◌≡◌, ◌∙◌, ap, arith, get_or, inl, inr, length, subst, sym}
-use Rattle.std.specs.Prelude.{IsSome}
-use Rattle.std.proofs.lemmas.Bool.{cases_eq}
-use Rattle.std.proofs.lemmas.List.{get_or_default}
-use Rattle.schemes.specs.declared.parts.Listed.{Listed}
-use Rattle.schemes.specs.Tables.{directory_at, first_listed, tables}
-use Rattle.certificate.specs.Trees.{GoOn}
+use Rattle.certificate.proofs.Words.{◌≡◌, ◌∙◌, ap, arith, get_or, inl, inr, length, subst, sym, IsSome, cases_eq, get_or_default, Listed, directory_at, first_listed, tables, GoOn}
 use Rattle.certificate.proofs.LookUps.{listed_at}
 use Rattle.certificate.proofs.TreeLemmas.{goes_on, stays}
-use Rattle.certificate.proofs.swift.sweep_listed.Goals as goal
-use Rattle.certificate.proofs.swift.sweep_listed.Goals.{then-x-nodes-via-then-x-nodes, then-x-nodes-via-else-x-nodes+then-not-sweep}
+use Rattle.certificate.proofs.swift.sweep_members.Goals as goal
+use Rattle.certificate.proofs.swift.sweep_members.Goals.{then-x-nodes-via-then-x-nodes, then-x-nodes-via-else-x-nodes+then-not-sweep}
 
 pub sweep-requires-clause-listed : goal.sweep-requires-clause-listed
 sweep-requires-clause-listed c _ =
@@ -19,13 +13,10 @@ sweep-requires-clause-listed c _ =
     subst (λ (z : Listed). IsSome (first_listed z.node es)) (sym (c.listed-item.is ∙ ap (λ xs. get_or xs i d) c.directory_of-listed-items.ensures)) (listed_at es i d (omega (arith, c.loop-listed-test.true, n)))
 
 pub returns-then-x-nodes-clause-on : goal.returns-then-x-nodes-clause-on
-returns-then-x-nodes-clause-on c =
-    let m = c.args.graph.now in
-    let p = c.args.scheme.now in
-    goes_on m p c.args.places.now c.loop-listed.places c.then-x-nodes.places c.loop-listed.invariant.on (elim c.then-x-nodes.branch [
-      | then-x-nodes-via-then-x-nodes w ↦ subst (GoOn m p c.loop-listed.places) (sym w.places-is) (stays m p c.loop-listed.places)
-      | then-x-nodes-via-else-x-nodes+then-not-sweep w ↦ subst (GoOn m p c.loop-listed.places) (sym w.places-is) w.sweep.ensures.on
-    ])
+returns-then-x-nodes-clause-on c = goes_on c.args.graph.now c.args.scheme.now c.args.places.now c.loop-listed.places c.then-x-nodes.places c.loop-listed.invariant.on (elim c.then-x-nodes.branch [
+  | then-x-nodes-via-then-x-nodes w ↦ subst (GoOn c.args.graph.now c.args.scheme.now c.loop-listed.places) (sym w.places-is) (stays c.args.graph.now c.args.scheme.now c.loop-listed.places)
+  | then-x-nodes-via-else-x-nodes+then-not-sweep w ↦ subst (GoOn c.args.graph.now c.args.scheme.now c.loop-listed.places) (sym w.places-is) w.sweep.ensures.on
+])
 
 pub loop-listed-preserved : goal.loop-listed-preserved
 loop-listed-preserved c = record {
