@@ -3,10 +3,9 @@ use Rattle.std.proofs.Common.{◌≡◌, ℕ, zero, suc, ◌+◌, ◌-◌, ◌*�
 use Rattle.std.specs.Int.{w16, from_be_bytes, to_be_bytes}
 use Rattle.std.specs.List.{flat_map}
 use Rattle.std.proofs.lemmas.Bool.{cases_lt, eqb-true, le-leb, le-ltb, lt-ltb}
-use Rattle.std.proofs.lemmas.List.{take_at, drop_at, take_all, drop_all, take_more, drop_more, append-nil, length-drop, length-append, length-take-le, replicate-append-replicate}
+use Rattle.std.proofs.lemmas.List.{drop_at, drop_more, drop-replicate, length-drop, length-append, take_all, take-replicate}
 use Rattle.std.proofs.lemmas.List.Concat.{flat_map-append}
 use Rattle.std.proofs.lemmas.Option.{none-some}
-use borrow.Rule.Slice.PartMut.{put_mid}
 use Rattle.byte_forms.specs.Forms.{FormOf, IsForm}
 use Rattle.byte_forms.specs.FormLaws.{both_true, length_items, short_form, short_is_form, u16_form, u16_is_form}
 use Rattle.byte_forms.specs.Reading.{◌>>=◌, items_at, number_at, short_at}
@@ -110,44 +109,20 @@ homeless bytes rest len flag behind zeros =
 
 -- ---- writing
 
--- n bytes written over others from a place on
-pub put_at : (at k n : ℕ) (a old new rest out buf : List ℕ) → out ≡ a ++ (old ++ rest) → length a ≡ at → length old ≡ n → length (old ++ rest) ≤ k
-    → buf ≡ new ++ drop n (take k (drop at out)) → put_mid at k out buf ≡ a ++ (new ++ rest)
-put_at at k n a old new rest out buf e la lo le eb =
-    let behind : drop at out ≡ old ++ rest = ap (λ (l : List ℕ). drop at l) e ∙ drop_at a (old ++ rest) at la in
-    let front : take at out ≡ a = ap (λ (l : List ℕ). take at l) e ∙ take_at a (old ++ rest) at la in
-    let part : buf ≡ new ++ rest = eb ∙ ap (λ (l : List ℕ). new ++ drop n (take k l)) behind ∙ ap (λ (l : List ℕ). new ++ drop n l) (take_all k (old ++ rest) le) ∙ ap (λ (l : List ℕ). new ++ l) (drop_at old rest n lo) in
-    let none : drop k (drop at out) ≡ [] = ap (λ (l : List ℕ). drop k l) behind ∙ drop_all k (old ++ rest) le in
-    ap (λ (l : List ℕ). take at out ++ (buf ++ l)) none
-    ∙ ap (λ (l : List ℕ). take at out ++ l) (append-nil buf ∙ part)
-    ∙ ap (λ (l : List ℕ). l ++ (new ++ rest)) front
+-- as many zeros as there are places that ports leave
+zeros_left : (n : ℕ) → n ≤ most_ports → ◌≡◌ {A = List ℕ} (take (2 * most_ports - 2 * n) (drop (2 * n) (replicate (2 * most_ports) 0))) (replicate (2 * (most_ports - n)) 0)
+zeros_left n few =
+    let left : ℕ = 2 * most_ports - 2 * n in
+    let same : left ≡ 2 * (most_ports - n) = omega (arith, few) in
+    let dropped : ◌≡◌ {A = List ℕ} (drop (2 * n) (replicate (2 * most_ports) 0)) (replicate left 0) = drop-replicate (2 * n) (2 * most_ports) 0 in
+    let taken : ◌≡◌ {A = List ℕ} (take left (replicate left 0)) (replicate left 0) = take-replicate left left 0 (omega arith) in
+    ap (λ (l : List ℕ). take left l) dropped ∙ taken ∙ ap (λ k. replicate k 0) same
 
--- one port more is written
-pub port_put : (ports : List ℕ) (i at k : ℕ) (out buf : List ℕ) → i < length ports → length ports ≤ most_ports → at ≡ 1 + 2 * i
-    → out ≡ length ports ∷ (flat_map (to_be_bytes w16) (take i ports) ++ replicate (2 * (most_ports - i)) 0) → k ≡ length out - at
-    → buf ≡ to_be_bytes w16 (get_or ports i 0) ++ drop 2 (take k (drop at out))
-    → put_mid at k out buf ≡ length ports ∷ (flat_map (to_be_bytes w16) (take (i + 1) ports) ++ replicate (2 * (most_ports - (i + 1))) 0)
-port_put ports i at k out buf lt few at_is e k_is eb =
-    let n = 2 * (most_ports - (i + 1)) in
-    let old : List ℕ = replicate 2 0 in
-    let rest : List ℕ = replicate n 0 in
-    let before = flat_map (to_be_bytes w16) (take i ports) in
-    let a = length ports ∷ before in
-    let port = get_or ports i 0 in
-    let places : 2 * (most_ports - i) ≡ 2 + n = omega (arith, lt, few) in
-    let front : length a ≡ at = ap (λ k. suc k) (length_ports (take i ports) ∙ ap (λ k. 2 * k) (length-take-le i ports (omega (arith, lt)))) ∙ omega (arith, at_is) in
-    let out_is : out ≡ a ++ (old ++ rest) = e ∙ ap (λ k. a ++ replicate k 0) places ∙ ap (λ (l : List ℕ). a ++ l) (sym (replicate-append-replicate 2 n 0)) in
-    let whole : length out ≡ at + length (old ++ rest) = ap length out_is ∙ length-append a (old ++ rest) ∙ ap (λ k. k + length (old ++ rest)) front in
-    let more : before ++ to_be_bytes w16 port ≡ flat_map (to_be_bytes w16) (take (i + 1) ports) =
-    sym (flat_map-append (to_be_bytes w16) (take i ports) (port ∷ [])) ∙ ap (flat_map (to_be_bytes w16)) (sym (take_more ports i 0 lt)) in
-    put_at at k 2 a old (to_be_bytes w16 port) rest out buf out_is front refl (omega (arith, whole, k_is)) eb
-    ∙ ap (λ (l : List ℕ). length ports ∷ l) (sym (append_assoc before (to_be_bytes w16 port) rest) ∙ ap (λ (l : List ℕ). l ++ rest) more)
-
--- all ports are written
-pub ports_put : (ports : List ℕ) (i : ℕ) (out : List ℕ) → length ports ≤ i → i ≤ length ports
-    → out ≡ length ports ∷ (flat_map (to_be_bytes w16) (take i ports) ++ replicate (2 * (most_ports - i)) 0) → out ≡ ports_text ports
-ports_put ports i out high low e =
-    let all : i ≡ length ports = omega (arith, high, low) in
-    e ∙ ap (λ (l : List ℕ). length ports ∷ (flat_map (to_be_bytes w16) l ++ replicate (2 * (most_ports - i)) 0)) (take_all i ports high)
-    ∙ ap (λ k. length ports ∷ (flat_map (to_be_bytes w16) ports ++ replicate (2 * (most_ports - k)) 0)) all
-    ∙ sym (ports_are ports)
+-- the ports that were written behind other bytes, and the zeros behind them
+pub ports_put : (old ports before all : List ℕ) (n : ℕ) → length ports ≤ n → length ports ≤ most_ports → before ≡ (old ++ length ports ∷ []) ++ flat_map (to_be_bytes w16) (take n ports)
+    → all ≡ before ++ take (2 * most_ports - 2 * length ports) (drop (2 * length ports) (replicate (2 * most_ports) 0)) → all ≡ old ++ ports_text ports
+ports_put old ports before all n past few is more =
+    let written : before ≡ (old ++ length ports ∷ []) ++ flat_map (to_be_bytes w16) ports = is ∙ ap (λ (l : List ℕ). (old ++ length ports ∷ []) ++ flat_map (to_be_bytes w16) l) (take_all n ports past) in
+    let zeros : List ℕ = replicate (2 * (most_ports - length ports)) 0 in
+    more ∙ ap (λ (l : List ℕ). before ++ l) (zeros_left (length ports) few) ∙ ap (λ (l : List ℕ). l ++ zeros) written
+    ∙ append_assoc (old ++ length ports ∷ []) (flat_map (to_be_bytes w16) ports) zeros ∙ append_assoc old (length ports ∷ []) (flat_map (to_be_bytes w16) ports ++ zeros) ∙ ap (λ (l : List ℕ). old ++ l) (sym (ports_are ports))

@@ -4,9 +4,7 @@ use Rattle.std.specs.Int.{w16, to_be_bytes}
 use Rattle.std.proofs.lemmas.List.{length-append, length-replicate}
 use Rattle.std.proofs.lemmas.List.Elements.{recursion_from_All}
 use Rattle.byte_forms.specs.FormLaws.{apart, u16_is_form, u64_is_form}
-use Rattle.schemes.specs.declared.packet.Address.{Address}
 use Rattle.schemes.specs.declared.packet.Home.{Home}
-use Rattle.schemes.specs.declared.packet.Packet.{Packet}
 use Rattle.packet_bytes.specs.Layout.{most_ports, home_size}
 use Rattle.packet_bytes.specs.Laws.{PacketsAreRead, OnePacket, AddressesAreRead, OneAddress}
 use Rattle.packet_bytes.specs.Refusals.{ports_refusal, home_refusal, packet_refusal, address_refusal}
@@ -34,9 +32,6 @@ same_ports a b are_a are_b e = (apart ports_is_form a b _ _ (fits a are_a) (fits
 
 -- ---- packets
 
-abbrev packet : ℕ → ℕ → ℕ → ℕ → List ℕ → ℕ → Packet
-packet generation destination root first lights hops = record { generation = generation; destination = destination; root = root; label = record { first = first; lights = lights }; hops_left = hops }
-
 pub packets_are_read : PacketsAreRead
 packets_are_read bytes k spells =
     let text = spells.text in
@@ -54,16 +49,11 @@ one_packet bytes j k sj sk =
     let first = apart u16_is_form j.label.first k.label.first _ _ a.label.0 b.label.0 root.1 in
     let hops = apart u16_is_form j.hops_left k.hops_left _ _ a.hops_left b.hops_left first.1 in
     let lights = same_ports j.label.lights k.label.lights a.label.1 b.label.1 hops.1 in
-    let same : packet j.generation j.destination j.root j.label.first j.label.lights j.hops_left ≡ packet k.generation k.destination k.root k.label.first k.label.lights k.hops_left =
-    cc (generation.0, destination.0, root.0, first.0, hops.0, lights) in
-    same
+    λ i. record { generation = generation.0 i; destination = destination.0 i; root = root.0 i; label = record { first = first.0 i; lights = lights i }; hops_left = hops.0 i }
 
 -- ---- addresses
 
-abbrev with_home : ℕ → ℕ → List ℕ → Option Home
-with_home landmark first lights = Some (record { landmark = landmark; label = record { first = first; lights = lights } })
-
-length_home : (o : Option Home) → IsHome o → length (home_text o) ≡ home_size
+pub length_home : (o : Option Home) → IsHome o → length (home_text o) ≡ home_size
 length_home None fits = refl
 length_home (Some h) fits = omega (arith, length_text h.label.lights fits.1.1.few)
 
@@ -80,11 +70,7 @@ same_home (Some g) (Some h) fo fp e =
     let landmark = apart u16_is_form g.landmark h.landmark _ _ fo.0 fp.0 rest in
     let first = apart u16_is_form g.label.first h.label.first _ _ fo.1.0 fp.1.0 landmark.1 in
     let lights = same_ports g.label.lights h.label.lights fo.1.1 fp.1.1 first.1 in
-    let same : with_home g.landmark g.label.first g.label.lights ≡ with_home h.landmark h.label.first h.label.lights = cc (landmark.0, first.0, lights) in
-    same
-
-abbrev address : ℕ → ℕ → Option Home → Address
-address generation node home = record { generation = generation; node = node; home = home }
+    λ i. Some (record { landmark = landmark.0 i; label = record { first = first.0 i; lights = lights i } })
 
 pub addresses_are_read : AddressesAreRead
 addresses_are_read bytes a spells =
@@ -98,5 +84,4 @@ one_address bytes a b sa sb =
     let generation = apart u64_is_form a.generation b.generation _ _ fa.generation fb.generation (sym sa.text ∙ sb.text) in
     let node = apart u16_is_form a.node b.node _ _ fa.node fb.node generation.1 in
     let home = same_home a.home b.home fa.home fb.home node.1 in
-    let same : address a.generation a.node a.home ≡ address b.generation b.node b.home = cc (generation.0, node.0, home) in
-    same
+    λ i. record { generation = generation.0 i; node = node.0 i; home = home i }

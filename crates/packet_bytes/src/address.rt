@@ -1,15 +1,13 @@
 //! Addresses as bytes.
-ghost use Rattle.std.specs.Prelude.{◌≡◌, None, Some, length, MatchResult};
+ghost use Rattle.std.specs.Prelude.{◌≡◌, ◌+◌, ◌≤◌, ◌++◌, None, Some, length, MatchResult};
 ghost use Rattle.packet_bytes.specs.Refusals.{address_refusal, home_refusal};
 ghost use Rattle.packet_bytes.specs.Spelling.{IsHome, SpellsAddress, home_text};
 
-use crate::fields::{put_u16, put_u64, split_u16, split_u64};
-use crate::layout::{
-    ADDRESS_PORTS_AT, ADDRESS_SIZE, FLAG_AT, HOME_FIRST_AT, HOME_SIZE, LANDMARK_AT, LANDMARK_FLAG,
-    NODE_AT,
-};
+use crate::fields::{put, put_u16, put_u64, split_u16, split_u64};
+use crate::layout::{ADDRESS_SIZE, HOME_SIZE, LANDMARK_FLAG};
 use crate::ports::{all_zero, put_ports, read_ports};
 use crate::wire::{Wire, WireRefused};
+use arrayvec::ArrayVec;
 use heavy_labels::Label;
 use schemes::{Address, Home};
 
@@ -23,16 +21,14 @@ impl Wire for Address {
     ghost refusal = { address_refusal };
 
     fn to_bytes(&self) -> [u8; ADDRESS_SIZE] {
-        let mut bytes = [0; ADDRESS_SIZE];
-        put_u64(&mut bytes, self.generation);
-        put_u16(&mut bytes[NODE_AT..], self.node);
-        if let Some(home) = &self.home {
-            bytes[FLAG_AT] = LANDMARK_FLAG;
-            put_u16(&mut bytes[LANDMARK_AT..], home.landmark);
-            put_u16(&mut bytes[HOME_FIRST_AT..], home.label.first());
-            put_ports(&mut bytes[ADDRESS_PORTS_AT..], home.label.lights());
+        let mut out = ArrayVec::<u8, ADDRESS_SIZE>::new();
+        put_u64(&mut out, self.generation);
+        put_u16(&mut out, self.node);
+        put_home(&mut out, &self.home);
+        match out.into_inner() {
+            Ok(bytes) => bytes,
+            Err(_) => unreachable!(),
         }
-        bytes
     }
 
     fn from_bytes(bytes: &[u8]) -> Result<Address, WireRefused> {
@@ -48,6 +44,22 @@ impl Wire for Address {
             home,
         })
     }
+}
+
+// Writes the landmark and label at the end, behind their flag; zeros where there are none.
+fn put_home<const N: usize>(out: &mut ArrayVec<u8, N>, home: &Option<Home>)
+    requires { length out.old.items + HOME_SIZE ≤ N }
+    ensures text { out.new.items ≡ out.old.items ++ home_text home.now }
+    ensures len { length out.new.items ≡ length out.old.items + HOME_SIZE }
+    ensures fits { IsHome home.now }
+{
+    let Some(home) = home else {
+        return put(out, &[0; HOME_SIZE]);
+    };
+    out.push(LANDMARK_FLAG);
+    put_u16(out, home.landmark);
+    put_u16(out, home.label.first());
+    put_ports(out, home.label.lights());
 }
 
 // The landmark and label that bytes from the flag on spell, or why they spell none.

@@ -1,25 +1,39 @@
-//! Numbers at the front of bytes, their first byte the highest.
-ghost use Rattle.std.specs.Prelude.{◌≡◌, ◌+◌, ◌^◌, ◌<◌, ◌≤◌, ◌++◌, drop, length};
+//! Numbers at the end of bytes and at their front, their first byte the highest.
+ghost use Rattle.std.specs.Prelude.{◌≡◌, ◌+◌, ◌^◌, ◌<◌, ◌≤◌, ◌++◌, length};
 ghost use Rattle.std.specs.Int.{w16, w64, to_be_bytes};
 
-use byteorder::{BigEndian, ByteOrder};
+use arrayvec::ArrayVec;
 
-/// Writes a number over the first two bytes.
-pub(crate) fn put_u16(out: &mut [u8], number: u16)
-    requires { 2 ≤ length out.old }
-    ensures text { out.new ≡ to_be_bytes w16 number ++ drop 2 out.old }
-    ensures fits { number < 2 ^ 16 }
+/// Writes bytes at the end, where there is room for them.
+pub(crate) fn put<const N: usize>(out: &mut ArrayVec<u8, N>, bytes: &[u8])
+    requires { length out.old.items + length bytes.now ≤ N }
+    ensures text { out.new.items ≡ out.old.items ++ bytes.now }
+    ensures len { length out.new.items ≡ length out.old.items + length bytes.now }
 {
-    BigEndian::write_u16(out, number);
+    match out.try_extend_from_slice(bytes) {
+        Ok(()) => (),
+        Err(_) => unreachable!(),
+    }
 }
 
-/// Writes a number over the first eight bytes.
-pub(crate) fn put_u64(out: &mut [u8], number: u64)
-    requires { 8 ≤ length out.old }
-    ensures text { out.new ≡ to_be_bytes w64 number ++ drop 8 out.old }
+/// Writes a number of two bytes at the end.
+pub(crate) fn put_u16<const N: usize>(out: &mut ArrayVec<u8, N>, number: u16)
+    requires { length out.old.items + 2 ≤ N }
+    ensures text { out.new.items ≡ out.old.items ++ to_be_bytes w16 number }
+    ensures len { length out.new.items ≡ length out.old.items + 2 }
+    ensures fits { number < 2 ^ 16 }
+{
+    put(out, &u16::to_be_bytes(number));
+}
+
+/// Writes a number of eight bytes at the end.
+pub(crate) fn put_u64<const N: usize>(out: &mut ArrayVec<u8, N>, number: u64)
+    requires { length out.old.items + 8 ≤ N }
+    ensures text { out.new.items ≡ out.old.items ++ to_be_bytes w64 number }
+    ensures len { length out.new.items ≡ length out.old.items + 8 }
     ensures fits { number < 2 ^ 64 }
 {
-    BigEndian::write_u64(out, number);
+    put(out, &u64::to_be_bytes(number));
 }
 
 /// The `u16` at the front, and the bytes after it.

@@ -3,9 +3,10 @@ ghost use Rattle.packet_bytes.specs.Refusals.{packet_refusal};
 ghost use Rattle.packet_bytes.specs.Spelling.{SpellsPacket};
 
 use crate::fields::{put_u16, put_u64, split_u16, split_u64};
-use crate::layout::{DESTINATION_AT, FIRST_AT, HOPS_AT, PACKET_PORTS_AT, PACKET_SIZE, ROOT_AT};
+use crate::layout::PACKET_SIZE;
 use crate::ports::{put_ports, read_ports};
 use crate::wire::{Wire, WireRefused};
+use arrayvec::ArrayVec;
 use heavy_labels::Label;
 use schemes::Packet;
 
@@ -19,14 +20,17 @@ impl Wire for Packet {
     ghost refusal = { packet_refusal };
 
     fn to_bytes(&self) -> [u8; PACKET_SIZE] {
-        let mut bytes = [0; PACKET_SIZE];
-        put_u64(&mut bytes, self.generation);
-        put_u16(&mut bytes[DESTINATION_AT..], self.destination);
-        put_u16(&mut bytes[ROOT_AT..], self.root);
-        put_u16(&mut bytes[FIRST_AT..], self.label.first());
-        put_u16(&mut bytes[HOPS_AT..], self.hops_left);
-        put_ports(&mut bytes[PACKET_PORTS_AT..], self.label.lights());
-        bytes
+        let mut out = ArrayVec::<u8, PACKET_SIZE>::new();
+        put_u64(&mut out, self.generation);
+        put_u16(&mut out, self.destination);
+        put_u16(&mut out, self.root);
+        put_u16(&mut out, self.label.first());
+        put_u16(&mut out, self.hops_left);
+        put_ports(&mut out, self.label.lights());
+        match out.into_inner() {
+            Ok(bytes) => bytes,
+            Err(_) => unreachable!(),
+        }
     }
 
     fn from_bytes(bytes: &[u8]) -> Result<Packet, WireRefused> {

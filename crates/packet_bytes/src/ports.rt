@@ -1,28 +1,31 @@
 //! The ports of a label: how many there are, and a place for each that a label has room for.
-ghost use Rattle.std.specs.Prelude.{◌≡◌, ◌≤◌, length, replicate, None, Some, MatchResult};
+ghost use Rattle.std.specs.Prelude.{◌≡◌, ◌+◌, ◌≤◌, ◌++◌, length, None, Some, MatchResult};
 ghost use Rattle.packet_bytes.specs.Spelling.{ports_text, ArePorts};
 ghost use Rattle.packet_bytes.specs.Refusals.{are_zeros, ports_refusal};
 
-use crate::fields::put_u16;
+use crate::fields::{put, put_u16};
 use crate::layout::PORTS_SIZE;
 use crate::wire::WireRefused;
 use arrayvec::ArrayVec;
 use byte_forms::{U16, short_of};
 use heavy_labels::MOST_LIGHTS;
 
-/// Writes the ports over zeros.
-pub(crate) fn put_ports(out: &mut [u8], ports: &[u16])
-    requires zeros { out.old ≡ replicate PORTS_SIZE 0 }
+/// As many zeros as there are bytes for ports.
+const ZEROS: [u8; 2 * MOST_LIGHTS] = [0; 2 * MOST_LIGHTS];
+
+/// Writes the ports at the end, and zeros in the places that they leave.
+pub(crate) fn put_ports<const N: usize>(out: &mut ArrayVec<u8, N>, ports: &[u16])
     requires few { length ports.now ≤ MOST_LIGHTS }
-    ensures text { out.new ≡ ports_text ports.now }
+    requires room { length out.old.items + PORTS_SIZE ≤ N }
+    ensures text { out.new.items ≡ out.old.items ++ ports_text ports.now }
+    ensures len { length out.new.items ≡ length out.old.items + PORTS_SIZE }
     ensures fits { ArePorts ports.now }
 {
-    out[0] = ports.len() as u8;
-    let mut at = 1;
+    out.push(ports.len() as u8);
     for port in ports {
-        put_u16(&mut out[at..], *port);
-        at += 2;
+        put_u16(out, *port);
     }
+    put(out, &ZEROS[2 * ports.len()..]);
 }
 
 /// Whether all bytes are 0.
