@@ -52,17 +52,13 @@ pub launch_asked : (line digits : List ℕ) (asked : Asked) → line ≡ launch_
 launch_asked line digits (Launch a) e is = (digits, (e, is))
 launch_asked line digits (Unread w) e is = (digits, inl (e, is))
 launch_asked line digits NotUnderstood e is = λ asked asks. nothing_to_launch digits is asked (subst (λ (l : List ℕ). Asks l asked) e asks)
-launch_asked line digits (Hop k) e is = absurd is
-launch_asked line digits Address e is = absurd is
-launch_asked line digits Tables e is = absurd is
+launch_asked line digits asked e is = absurd is
 
 pub hop_asked : (line digits : List ℕ) (asked : Asked) → line ≡ hop_word ++ digits → IsHop digits asked → IsAskedIn line asked
 hop_asked line digits (Hop k) e is = (digits, (e, is))
 hop_asked line digits (Unread w) e is = (digits, inr (e, is))
 hop_asked line digits NotUnderstood e is = λ asked asks. nothing_to_hop digits is asked (subst (λ (l : List ℕ). Asks l asked) e asks)
-hop_asked line digits (Launch a) e is = absurd is
-hop_asked line digits Address e is = absurd is
-hop_asked line digits Tables e is = absurd is
+hop_asked line digits asked e is = absurd is
 
 pub nothing_asked : (line : List ℕ) → line ≢ address_word → line ≢ tables_word → ((rest : List ℕ) → line ≢ launch_word ++ rest) → ((rest : List ℕ) → line ≢ hop_word ++ rest) → (asked : Asked) → Asks line asked → ⊥
 nothing_asked line a t l h Address e = a e

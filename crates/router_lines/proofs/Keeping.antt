@@ -1,7 +1,7 @@
 -- What a table more keeps of a shelf.
-use Rattle.std.proofs.Common.{◌≡◌, ◌≢◌, ◌⊎◌, inl, inr, ℕ, zero, suc, ◌-◌, ◌<◌, ◌≤◌, length, drop, Some, Result, Ok, Err, List, [], ◌∷◌, refl, sym, subst, arith, length-drop}
+use Rattle.std.proofs.Common.{◌≡◌, inl, inr, ℕ, zero, suc, ◌-◌, ◌<◌, length, drop, Some, Result, Ok, Err, List, [], ◌∷◌, refl, sym, subst, arith, length-drop}
 use Rattle.std.specs.List.{All, AllPairs}
-use Rattle.std.proofs.lemmas.Bool.{cases_lt, eq-eqb, lt-ltb, le-ltb, ne_eqb}
+use Rattle.std.proofs.lemmas.Bool.{cases_order, eq-eqb, lt-ltb, le-ltb, ne_eqb}
 use Rattle.std.proofs.lemmas.List.Elements.{All-nil, All-cons, All-head, All-tail, All-drop}
 use Rattle.std.proofs.lemmas.List.Kept.{AllPairs-cons}
 use Rattle.router_table.specs.Table.{Table}
@@ -23,25 +23,11 @@ older_drop (suc n) (b ∷ bs) h = older_drop n bs (older_tail b bs h)
 module _ (a : Table) where
   -- where a table goes, by the first one that is there
   by_first : (Q : List Table → Type 0) (b : Table) (bs : List Table) → (IsOlder b a → Q (b ∷ with_table a bs)) → (b.head.generation ≡ a.head.generation → Q (a ∷ bs)) → (IsOlder a b → Q (a ∷ b ∷ bs)) → Q (with_table a (b ∷ bs))
-  by_first Q b bs behind for before = first (cases_lt b.head.generation a.head.generation)
-    where
-      other : b.head.generation ≢ a.head.generation → a.head.generation ≤ b.head.generation → (a ∷ b ∷ bs) ≡ with_table a (b ∷ bs)
-      other apart le = rw (le-ltb b.head.generation a.head.generation le, ne_eqb b.head.generation a.head.generation apart) refl
-
-      same : b.head.generation ≡ a.head.generation → (a ∷ bs) ≡ with_table a (b ∷ bs)
-      same e = rw (le-ltb b.head.generation a.head.generation (omega (arith, e)), eq-eqb b.head.generation a.head.generation e) refl
-
-      next : (b.head.generation ≡ a.head.generation) ⊎ (b.head.generation ≢ a.head.generation) → a.head.generation ≤ b.head.generation → Q (with_table a (b ∷ bs))
-      next (inl e) le = subst Q (same e) (for e)
-      next (inr apart) le = subst Q (other apart le) (before (omega (arith, apart, le)))
-
-      equal : (a.head.generation < b.head.generation) ⊎ (b.head.generation ≤ a.head.generation) → a.head.generation ≤ b.head.generation → Q (with_table a (b ∷ bs))
-      equal (inl lt) le = next (inr (λ e. omega (arith, lt, e))) le
-      equal (inr ge) le = next (inl (omega (arith, ge, le))) le
-
-      first : (b.head.generation < a.head.generation) ⊎ (a.head.generation ≤ b.head.generation) → Q (with_table a (b ∷ bs))
-      first (inl lt) = subst Q (let e : (b ∷ with_table a bs) ≡ with_table a (b ∷ bs) = rw (lt-ltb b.head.generation a.head.generation lt) refl in e) (behind lt)
-      first (inr le) = equal (cases_lt a.head.generation b.head.generation) le
+  by_first Q b bs behind for before = elim (cases_order b.head.generation a.head.generation) [
+    | inl e ↦ rw (le-ltb b.head.generation a.head.generation (omega (arith, e)), eq-eqb b.head.generation a.head.generation e) (for e)
+    | inr (inl lt) ↦ rw (lt-ltb b.head.generation a.head.generation lt) (behind lt)
+    | inr (inr gt) ↦ rw (le-ltb b.head.generation a.head.generation (omega (arith, gt)), ne_eqb b.head.generation a.head.generation (λ e. omega (arith, gt, e))) (before gt)
+  ]
 
   all_with : (P : Table → Type 0) (bs : List Table) → P a → All P bs → All P (with_table a bs)
   all_with P [] p h = All-cons P a [] p (All-nil P)

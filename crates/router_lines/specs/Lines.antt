@@ -37,17 +37,13 @@ abbrev pub IsLaunch : List ℕ → Asked → Type 0
 IsLaunch digits (Launch a) = AreDigitsOf address_size SpellsAddress digits a
 IsLaunch digits (Unread e) = IsUnread address_size address_refusal digits e
 IsLaunch digits NotUnderstood = HasNoBytes address_size digits
-IsLaunch digits (Hop k) = ⊥
-IsLaunch digits Address = ⊥
-IsLaunch digits Tables = ⊥
+IsLaunch digits asked = ⊥
 
 abbrev pub IsHop : List ℕ → Asked → Type 0
 IsHop digits (Hop k) = AreDigitsOf packet_size SpellsPacket digits k
 IsHop digits (Unread e) = IsUnread packet_size packet_refusal digits e
 IsHop digits NotUnderstood = HasNoBytes packet_size digits
-IsHop digits (Launch a) = ⊥
-IsHop digits Address = ⊥
-IsHop digits Tables = ⊥
+IsHop digits asked = ⊥
 
 -- a line asks for something that is known
 abbrev pub Asks : List ℕ → Asked → Type 0
@@ -61,9 +57,5 @@ Asks line NotUnderstood = ⊥
 
 -- what a line asks for, exactly: for nothing where it asks for nothing that is known
 abbrev pub IsAskedIn : List ℕ → Asked → Type 0
-IsAskedIn line Address = Asks line Address
-IsAskedIn line Tables = Asks line Tables
-IsAskedIn line (Launch a) = Asks line (Launch a)
-IsAskedIn line (Hop k) = Asks line (Hop k)
-IsAskedIn line (Unread e) = Asks line (Unread e)
 IsAskedIn line NotUnderstood = (asked : Asked) → Asks line asked → ⊥
+IsAskedIn line asked = Asks line asked

@@ -1,11 +1,12 @@
 -- Heads, lists and bodies: what was read is what was written, and what was written is read again.
-use Rattle.std.proofs.Common.{◌≡◌, ◌≢◌, ℕ, ◌^◌, ◌<◌, ◌≤◌, ◌==◌, Bool, true, false, List, ◌++◌, length, take, drop, Option, Some, None, MatchOption, refl, sym, ap, subst, ◌∙◌, arith}
+use Rattle.std.proofs.Common.{◌≡◌, ◌≢◌, ℕ, ◌^◌, ◌<◌, ◌≤◌, List, ◌++◌, length, take, drop, Option, Some, None, MatchOption, refl, sym, ap, subst, ◌∙◌, arith, inl, inr}
 use Rattle.std.specs.Int.{w16, w64, to_be_bytes}
-use Rattle.std.proofs.lemmas.Bool.{eqb-true}
+use Rattle.std.proofs.lemmas.Bool.{cases_eq, ne_eqb}
 use Rattle.std.proofs.lemmas.List.{drop_at, take_at, take-append-drop, take-take}
 use Rattle.std.proofs.lemmas.Option.{same_Some}
 use Rattle.schemes.specs.declared.packet.Address.{Address}
 use Rattle.schemes.specs.declared.packet.Home.{Home}
+use Rattle.schemes.proofs.Basics.Options.{not_none}
 use Rattle.packet_bytes.specs.declared.wire.WireRefused.{WireRefused}
 use Rattle.packet_bytes.specs.Layout.{address_size}
 use Rattle.packet_bytes.specs.Refusals.{address_refusal}
@@ -35,11 +36,10 @@ pub spells : (h : Head) → IsHead h → SpellsAddress (address_text (address_of
 spells h ok = record { fits = record { generation = ok.generation; node = omega (arith, ok.node, ok.nodes); home = home_fits h.nodes h.home ok.nodes ok.home }; text = refl }
 
 sized : (bytes : List ℕ) → address_refusal bytes ≡ None → length bytes ≡ address_size
-sized bytes none = go (length bytes == address_size) refl none
-  where
-    go : (b : Bool) → (length bytes == address_size) ≡ b → address_refusal bytes ≡ None → length bytes ≡ address_size
-    go true e n = eqb-true _ _ e
-    go false e n = absurd (let k = rw e at n in cc)
+sized bytes none = elim (cases_eq (length bytes) address_size) [
+  | inl same ↦ same
+  | inr ne ↦ absurd (let k = rw (ne_eqb (length bytes) address_size ne) at none in cc)
+]
 
 length_address : (h : Head) → IsHead h → length (address_text (address_of h)) ≡ 42
 length_address h ok = sized (address_text (address_of h)) (addresses_are_read _ (address_of h) (spells h ok))
@@ -70,48 +70,46 @@ pub router_again : (h : Head) → IsHead h → numbers_at (router_text h) ≡ So
 unfolding router_text
 router_again h ok = numbers_again h.generation h.nodes h.node (address_text (address_of h)) ok.generation ok.nodes (omega (arith, ok.node, ok.nodes))
 
-none_some : {X : Type 0} {x : X} {o : Option X} → o ≡ None → o ≡ Some x → ⊥
-none_some e f = cc
-
 pub no_numbers : (bytes : List ℕ) → numbers_at bytes ≡ None → (h : Head) → IsHead h → bytes ≢ router_text h
-no_numbers bytes none h ok same = none_some none (ap numbers_at same ∙ router_again h ok)
+no_numbers bytes none h ok same = not_none (ap numbers_at same ∙ router_again h ok) none
 
-pub same_numbers : (bytes : List ℕ) (g n x : ℕ) (rest : List ℕ) (h : Head) → numbers_at bytes ≡ Some (g, n, x, rest) → IsHead h → bytes ≡ router_text h
-    → (h.generation ≡ g) × (h.nodes ≡ n) × (h.node ≡ x) × (address_text (address_of h) ≡ rest)
-same_numbers bytes g n x rest h found ok same =
-    let e : (h.generation, h.nodes, h.node, address_text (address_of h)) ≡ (g, n, x, rest) = same_Some {A = Numbers} _ _ (sym (router_again h ok) ∙ ap numbers_at (sym same) ∙ found) in
-    (ap (λ (y : Numbers). y.0) e, ap (λ (y : Numbers). y.1) e, ap (λ (y : Numbers). y.2) e, ap (λ (y : Numbers). y.3) e)
+module _ (bytes : List ℕ) (g n x : ℕ) (rest : List ℕ) (found : numbers_at bytes ≡ Some (g, n, x, rest)) where
+  -- a head in order whose text this is has these numbers, and its address stands behind them
+  its_parts : (h : Head) → IsHead h → bytes ≡ router_text h → (h ≡ record { generation = g; nodes = n; node = x; home = h.home }) × SpellsAddress rest (address_of h)
+  its_parts h ok same =
+      let e : (h.generation, h.nodes, h.node, address_text (address_of h)) ≡ (g, n, x, rest) = same_Some {A = Numbers} _ _ (sym (router_again h ok) ∙ ap numbers_at (sym same) ∙ found) in
+      (λ i. record { generation = (e i).0; nodes = (e i).1; node = (e i).2; home = h.home }, subst (λ (t : List ℕ). SpellsAddress t (address_of h)) (ap (λ (y : Numbers). y.3) e) (spells h ok))
 
-pub no_address : (bytes : List ℕ) (g n x : ℕ) (rest : List ℕ) (refused : WireRefused) → numbers_at bytes ≡ Some (g, n, x, rest) → address_refusal rest ≡ Some refused → (h : Head) → IsHead h → bytes ≢ router_text h
-no_address bytes g n x rest refused found is_refused h ok same =
-    let e = same_numbers bytes g n x rest h found ok same in
-    none_some (addresses_are_read _ (address_of h) (spells h ok)) (ap address_refusal e.3 ∙ is_refused)
+  pub no_address : (refused : WireRefused) → address_refusal rest ≡ Some refused → (h : Head) → IsHead h → bytes ≢ router_text h
+  no_address refused is_refused h ok same = not_none is_refused (addresses_are_read rest (address_of h) (its_parts h ok same).1)
 
-pub other_address : (bytes : List ℕ) (g n x : ℕ) (rest : List ℕ) (a : Address) → numbers_at bytes ≡ Some (g, n, x, rest) → SpellsAddress rest a → (a.generation ≡ g → a.node ≡ x → ⊥) → (h : Head) → IsHead h → bytes ≢ router_text h
-other_address bytes g n x rest a found spelled other h ok same =
-    let e = same_numbers bytes g n x rest h found ok same in
-    let one : address_of h ≡ a = one_address rest (address_of h) a (subst (λ (t : List ℕ). SpellsAddress t (address_of h)) e.3 (spells h ok)) spelled in
-    other (ap (λ (b : Address). b.generation) (sym one) ∙ e.0) (ap (λ (b : Address). b.node) (sym one) ∙ e.2)
+  module _ (a : Address) (spelled : SpellsAddress rest a) where
+    its_address : (h : Head) → IsHead h → bytes ≡ router_text h → address_of h ≡ a
+    its_address h ok same = one_address rest (address_of h) a (its_parts h ok same).1 spelled
 
-pub its_address : (bytes : List ℕ) (g n x : ℕ) (rest : List ℕ) (a : Address) (h : Head) → IsBytes bytes → numbers_at bytes ≡ Some (g, n, x, rest) → SpellsAddress rest a → IsHeadWith g n x a h → bytes ≡ router_text h
-unfolding router_text
-its_address bytes g n x rest a h ok found spelled with =
-    let same : router_text h ≡ numbers_text g n x (address_text (record { generation = g; node = x; home = a.home })) = ap router_text with.same_head in
-    let address : record { generation = g; node = x; home = a.home } ≡ a = λ i. record { generation = sym with.same_generation i; node = sym with.same_node i; home = a.home } in
-    numbers_take bytes (g, n, x, rest) ok found ∙ ap (numbers_text g n x) (spelled.text ∙ ap address_text (sym address)) ∙ sym same
+    other_address : (a.generation ≡ g → a.node ≡ x → ⊥) → (h : Head) → IsHead h → bytes ≢ router_text h
+    other_address other h ok same =
+        let is = sym (its_address h ok same) in
+        let parts = (its_parts h ok same).0 in
+        other (ap (λ (b : Address). b.generation) is ∙ ap (λ (k : Head). k.generation) parts) (ap (λ (b : Address). b.node) is ∙ ap (λ (k : Head). k.node) parts)
 
-its_head : (bytes : List ℕ) (g n x : ℕ) (rest : List ℕ) (a : Address) (h : Head) → numbers_at bytes ≡ Some (g, n, x, rest) → SpellsAddress rest a → IsHeadWith g n x a h → (k : Head) → IsHead k → bytes ≡ router_text k → k ≡ h
-its_head bytes g n x rest a h found spelled with k ok same =
-    let e = same_numbers bytes g n x rest k found ok same in
-    let one : address_of k ≡ a = one_address rest (address_of k) a (subst (λ (t : List ℕ). SpellsAddress t (address_of k)) e.3 (spells k ok)) spelled in
-    let made : k ≡ record { generation = g; nodes = n; node = x; home = a.home } = λ i. record { generation = e.0 i; nodes = e.1 i; node = e.2 i; home = (one i).home } in
-    made ∙ sym with.same_head
+    its_text : (h : Head) → IsBytes bytes → IsHeadWith g n x a h → bytes ≡ router_text h
+    unfolding router_text
+    its_text h ok with =
+        let same : router_text h ≡ numbers_text g n x (address_text (record { generation = g; node = x; home = a.home })) = ap router_text with.same_head in
+        let address : record { generation = g; node = x; home = a.home } ≡ a = λ i. record { generation = sym with.same_generation i; node = sym with.same_node i; home = a.home } in
+        numbers_take bytes (g, n, x, rest) ok found ∙ ap (numbers_text g n x) (spelled.text ∙ ap address_text (sym address)) ∙ sym same
 
--- what is answered of an address that was read
-pub head_read : (bytes : List ℕ) (g n x : ℕ) (rest : List ℕ) (a : Address) (o : Option Head) → IsBytes bytes → numbers_at bytes ≡ Some (g, n, x, rest) → SpellsAddress rest a
-    → MatchOption o (a.generation ≡ g → a.node ≡ x → ⊥) (IsHeadWith g n x a) → MatchOption o ((h : Head) → IsHead h → bytes ≢ router_text h) (IsHeadIn bytes)
-head_read bytes g n x rest a None ok found spelled other = other_address bytes g n x rest a found spelled other
-head_read bytes g n x rest a (Some h) ok found spelled with = record { text = its_address bytes g n x rest a h ok found spelled with; only = its_head bytes g n x rest a h found spelled with }
+    pub its_head : (h : Head) → IsHeadWith g n x a h → (k : Head) → IsHead k → bytes ≡ router_text k → k ≡ h
+    its_head h with k ok same =
+        let p = (its_parts k ok same).0 in
+        let made : k ≡ record { generation = g; nodes = n; node = x; home = a.home } = λ i. record { generation = (p i).generation; nodes = (p i).nodes; node = (p i).node; home = (its_address k ok same i).home } in
+        made ∙ sym with.same_head
+
+    -- what is answered of an address that was read
+    pub head_read : (o : Option Head) → IsBytes bytes → MatchOption o (a.generation ≡ g → a.node ≡ x → ⊥) (IsHeadWith g n x a) → MatchOption o ((h : Head) → IsHead h → bytes ≢ router_text h) (IsHeadIn bytes)
+    head_read None ok other = other_address other
+    head_read (Some h) ok with = record { text = its_text h ok with; only = its_head h with }
 
 pub length_router : (h : Head) → IsHead h → length (router_text h) ≡ 54
 unfolding router_text
@@ -145,14 +143,18 @@ pub head_front : (h : Head) → (take 8 (head_text h) ≡ letters ++ version) ×
 unfolding head_text
 head_front h = (refl, refl)
 
+router_in : (a : Table) → IsTable a → drop 8 (take head_size (body_text a)) ≡ router_text a.head
+router_in a ok = ap (λ (t : List ℕ). drop 8 t) (body_parts a ok).0 ∙ (head_front a.head).1
+
+lists_in : (a : Table) → IsTable a → lists_at (drop head_size (body_text a)) ≡ Some (a.ports, a.entries, a.directory)
+lists_in a ok = ap lists_at (body_parts a ok).1 ∙ lists_again a ok
+
 -- where no head stands in front, or no lists behind it, no table in order has the body
 pub no_head : (body : List ℕ) → ((h : Head) → IsHead h → drop 8 (take head_size body) ≢ router_text h) → (a : Table) → IsTable a → body ≢ body_text a
-no_head body none a ok same =
-    none a.head ok.head (ap (λ (t : List ℕ). drop 8 (take head_size t)) same ∙ ap (λ (t : List ℕ). drop 8 t) (body_parts a ok).0 ∙ (head_front a.head).1)
+no_head body none a ok same = none a.head ok.head (ap (λ (t : List ℕ). drop 8 (take head_size t)) same ∙ router_in a ok)
 
 pub no_lists : (body : List ℕ) → lists_at (drop head_size body) ≡ None → (a : Table) → IsTable a → body ≢ body_text a
-no_lists body none a ok same =
-    none_some none (ap (λ (t : List ℕ). lists_at (drop head_size t)) same ∙ ap lists_at (body_parts a ok).1 ∙ lists_again a ok)
+no_lists body none a ok same = not_none (ap (λ (t : List ℕ). lists_at (drop head_size t)) same ∙ lists_in a ok) none
 
 -- of lists that weren't read
 pub lists_refused : (body rest : List ℕ) (failed : ReadError) → rest ≡ drop head_size body → Fails failed (lists_at rest) → IsBodyRefused body (refusal_by failed)
@@ -169,17 +171,22 @@ body_text_read body a ok front long router lists =
     let text : head ≡ head_text a.head = sym (take-append-drop 8 head) ∙ ap (λ (t : List ℕ). t ++ drop 8 head) first ∙ ap (λ (t : List ℕ). (letters ++ version) ++ t) router in
     sym (take-append-drop head_size body) ∙ ap (λ (t : List ℕ). t ++ drop head_size body) text ∙ ap (λ (t : List ℕ). head_text a.head ++ t) (lists_take (drop head_size body) (a.ports, a.entries, a.directory) (IsBytes-drop head_size body ok) lists)
 
+-- and no other table in order has it
+body_only : (body : List ℕ) (a : Table) → ((h : Head) → IsHead h → drop 8 (take head_size body) ≡ router_text h → h ≡ a.head) → lists_at (drop head_size body) ≡ Some (a.ports, a.entries, a.directory)
+    → (b : Table) → IsTable b → body ≡ body_text b → b ≡ a
+body_only body a head lists b fits same =
+    let heads = head b.head fits.head (ap (λ (t : List ℕ). drop 8 (take head_size t)) same ∙ router_in b fits) in
+    let all : (b.ports, b.entries, b.directory) ≡ (a.ports, a.entries, a.directory) = same_Some {A = Lists} _ _ (sym (ap (λ (t : List ℕ). lists_at (drop head_size t)) same ∙ lists_in b fits) ∙ lists) in
+    λ i. record { head = heads i; ports = (all i).0; entries = (all i).1; directory = (all i).2 }
+
 pub body_read : (body front rest : List ℕ) (a : Table) → IsBytes body → take 8 body ≡ letters ++ version → head_size ≤ length body → front ≡ take head_size body → rest ≡ drop head_size body
     → IsHeadIn (drop 8 front) a.head → lists_at rest ≡ Some (a.ports, a.entries, a.directory) → IsTableIn body a
 body_read body front rest a ok first long front_is rest_is head lists =
-    let router : drop 8 (take head_size body) ≡ router_text a.head = ap (λ (t : List ℕ). drop 8 t) (sym front_is) ∙ head.text in
-    let found : lists_at (drop head_size body) ≡ Some (a.ports, a.entries, a.directory) = ap lists_at (sym rest_is) ∙ lists in
-    record {
-      text = body_text_read body a ok first long router found;
-      only = λ (b : Table) (fits : IsTable b) (same : body ≡ body_text b). (
-          let parts = body_parts b fits in
-          let heads : b.head ≡ a.head = head.only b.head fits.head (ap (λ (t : List ℕ). drop 8 t) (front_is ∙ ap (λ (t : List ℕ). take head_size t) same ∙ parts.0) ∙ (head_front b.head).1) in
-          let all : (b.ports, b.entries, b.directory) ≡ (a.ports, a.entries, a.directory) = same_Some {A = Lists} _ _
-          (sym (ap lists_at (ap (λ (t : List ℕ). drop head_size t) same ∙ parts.1) ∙ lists_again b fits) ∙ found) in
-          λ i. record { head = heads i; ports = (all i).0; entries = (all i).1; directory = (all i).2 });
-    }
+    let router = subst (λ (t : List ℕ). IsHeadIn (drop 8 t) a.head) front_is head in
+    let found = ap lists_at (sym rest_is) ∙ lists in
+    record { text = body_text_read body a ok first long router.text found; only = body_only body a router.only found }
+
+-- so tables in order with one body are one
+pub one_body : (a b : Table) → IsTable a → IsTable b → body_text a ≡ body_text b → b ≡ a
+one_body a b oka okb same = body_only (body_text a) a (λ h ok e. its_head (router_text a.head) a.head.generation a.head.nodes a.head.node (address_text (address_of a.head)) (router_again a.head oka.head)
+    (address_of a.head) (spells a.head oka.head) a.head (record { same_head = refl; same_generation = refl; same_node = refl }) h ok (sym (router_in a oka) ∙ e)) (lists_in a oka) b okb same

@@ -1,7 +1,11 @@
 -- How many items there are in order, and that what is in order has bytes.
-use Rattle.std.proofs.Common.{◌≡◌, ℕ, zero, suc, ◌+◌, ◌^◌, ◌<◌, ◌≤◌, length, get_or, List, [], ◌∷◌, Option, Some, None, IfSome, subst, arith}
+use Rattle.std.proofs.Common.{ℕ, ◌^◌, ◌<◌, ◌≤◌, length, map, List, Option, IfSome, arith}
 use Rattle.std.specs.List.{AllByRecursion}
-use Rattle.std.proofs.lemmas.List.Elements.{recursion_from_All}
+use Rattle.std.proofs.lemmas.List.{length-map}
+use Rattle.std.proofs.lemmas.List.Elements.{All-map, recursion_from_All}
+use Rattle.std.proofs.lemmas.Map.Keys.{sorted_from_strictly_increasing}
+use Rattle.std.proofs.lemmas.Map.Views.{length-le_from_below}
+use Rattle.std.proofs.lemmas.Option.{IfSome_then}
 use Rattle.heavy_labels.specs.declared.tree_record.Record.{Record}
 use Rattle.schemes.specs.declared.parts.Listed.{Listed}
 use Rattle.router_table.specs.declared.tree_entry.TreeEntry.{TreeEntry}
@@ -12,28 +16,15 @@ use Rattle.router_table.specs.Order.{IsRecord, IsTable}
 use Rattle.router_table.specs.Reading.{lists_form}
 use Rattle.router_table.specs.Spelling.{no_port}
 use Rattle.router_table.specs.Table.{Table}
-use Rattle.router_table.proofs.Searching.{next_rises}
 
--- a number of ascending ones is no less than its place
-at_least : {X : Type 0} (key : X → ℕ) (limit : ℕ) (xs : List X) → AreInOrder key limit xs → (i : ℕ) (d : X) → i < length xs → i ≤ key (get_or xs i d)
-at_least key limit xs ok zero d lt = omega arith
-at_least key limit xs ok (suc i) d lt =
-    let before = at_least key limit xs ok i d (omega arith) in
-    let e : i + 1 ≡ suc i = omega arith in
-    let next = next_rises key 0 xs ok.ascend i d (omega arith) in
-    subst (λ k. suc i ≤ key (get_or xs k d)) e (omega (arith, before, next))
-
--- so there are no more of them than numbers below the limit
+-- numbers that ascend below a limit are no more than it
 pub few : {X : Type 0} (key : X → ℕ) (limit : ℕ) (xs : List X) → AreInOrder key limit xs → length xs ≤ limit
-few key limit [] ok = omega arith
-few key limit (x ∷ xs) ok =
-    let last = at_least key limit (x ∷ xs) ok (length xs) x (omega arith) in
-    let below = ok.below (length xs) x (omega arith) in
-    omega (arith, last, below)
+few key limit xs ok =
+    let few_keys = length-le_from_below limit (map key xs) (sorted_from_strictly_increasing (map key xs) ok.ascend) (All-map (λ n. n < limit) key xs ok.below) in
+    omega (arith, length-map xs key, few_keys)
 
 port_fits : (many : ℕ) (o : Option ℕ) → many ≤ no_port → IfSome o (λ p. p < many) → IfSome o (λ p. p < no_port)
-port_fits many None le fits = tt
-port_fits many (Some p) le fits = omega arith
+port_fits many o le fits = IfSome_then o fits (λ p below. omega (arith, le, below))
 
 pub has_bytes : (many : ℕ) (r : Record) → many ≤ no_port → IsRecord many r → HasBytes r
 has_bytes many r le fits =

@@ -1,30 +1,26 @@
 -- The form of tables that were written, and that these are read, each as the one table that it is of.
-use Rattle.std.proofs.Common.{◌≡◌, ℕ, suc, ◌-◌, ◌*◌, ◌^◌, ◌<◌, ◌≤◌, false, ltb, List, [], ◌∷◌, ◌++◌, length, take, drop, Option, Some, None, refl, sym, ap, subst, ◌∙◌, append_assoc, arith}
+use Rattle.std.proofs.Common.{◌≡◌, ℕ, suc, ◌-◌, ◌*◌, ◌^◌, ◌<◌, ◌≤◌, false, ltb, List, [], ◌∷◌, ◌++◌, length, take, drop, Some, refl, sym, ap, subst, ◌∙◌, append_assoc, arith}
 use Rattle.std.specs.Int.{w16, from_be_bytes}
 use Rattle.std.specs.List.{flat_map}
 use Rattle.std.proofs.lemmas.Bool.{le-ltb}
 use Rattle.std.proofs.lemmas.List.{drop_at, length-append, take-append-drop, take_at}
 use Rattle.std.proofs.lemmas.List.Concat.{flat_map-cons}
 use Rattle.std.proofs.lemmas.Nat.{from_be_bytes-to_be_bytes_2}
-use Rattle.std.proofs.lemmas.Option.{none-some, same_Some}
 use Rattle.sha2.proofs.Facts256.{length-sha256}
 use Rattle.schemes.specs.declared.parts.Listed.{Listed}
-use Rattle.packet_bytes.specs.Spelling.{SpellsAddress, address_text}
-use Rattle.packet_bytes.proofs.Spellings.{one_address}
 use Rattle.byte_forms.specs.Forms.{list_text}
 use Rattle.byte_forms.specs.FormLaws.{length_items}
-use Rattle.router_table.specs.declared.head.Head.{Head}
 use Rattle.router_table.specs.declared.tree_entry.TreeEntry.{TreeEntry}
 use Rattle.router_table.specs.declared.refused.ReadRefused.{ReadRefused}
 use Rattle.router_table.specs.declared.refused.ReadRefused.TheVariants.{NoTable, UnknownVersion, CutShort, TooLong, Damaged, NotInOrder, Memory}
 use Rattle.router_table.specs.Laws.{OneTable, TablesAreRead}
-use Rattle.router_table.specs.Order.{IsHead, IsTable}
-use Rattle.router_table.specs.Reading.{IsTableIn, Lists, lists_at}
+use Rattle.router_table.specs.Order.{IsTable}
+use Rattle.router_table.specs.Reading.{IsTableIn}
 use Rattle.router_table.specs.Refusals.{HasDigest, HasLetters, HasVersion, IsBodyOf, IsBodyRefused, IsLong, IsRefusedFor, IsShort, behind, behind_body, behind_directory, behind_items, behind_members, body_in, digest_in, digest_size, entry_size, head_size}
-use Rattle.router_table.specs.Spelling.{SpellsTable, body_text, digest_of, entry_text, head_text, lists_text, member_text, number, router_text}
-use Rattle.router_table.specs.Table.{Table, address_of}
+use Rattle.router_table.specs.Spelling.{SpellsTable, body_text, digest_of, entry_text, head_text, lists_text, member_text, number}
+use Rattle.router_table.specs.Table.{Table}
 use Rattle.router_table.proofs.Fits.{few_ports, few_entries, few_members}
-use Rattle.router_table.proofs.BodyTexts.{body_parts, head_front, length_head, lists_again, router_again, same_numbers, spells}
+use Rattle.router_table.proofs.BodyTexts.{length_head, one_body}
 
 -- ---- sizes
 
@@ -123,53 +119,26 @@ version_text bytes a spelled = ap (λ (t : List ℕ). take 2 (drop 6 t)) spelled
 digest_text : (bytes : List ℕ) (a : Table) → SpellsTable bytes a → HasDigest bytes
 digest_text bytes a spelled = (let both = body_of_text bytes a spelled in both.1 ∙ ap digest_of (sym both.0))
 
-not_short : (rest : List ℕ) (o : Option (List ℕ)) → o ≡ Some rest → length rest ≡ digest_size → IsShort o → ⊥
-not_short rest None e len short = none-some rest e
-not_short rest (Some r) e len short = omega (arith, short, len, ap length (same_Some r rest e))
-
-not_long : (rest : List ℕ) (o : Option (List ℕ)) → o ≡ Some rest → length rest ≡ digest_size → IsLong o → ⊥
-not_long rest None e len long = long
-not_long rest (Some r) e len long = omega (arith, long, len, ap length (same_Some r rest e))
-
 pub tables_are_read : TablesAreRead
 tables_are_read bytes a NoTable spelled refused = absurd (refused (letters_text bytes a spelled))
 tables_are_read bytes a UnknownVersion spelled refused = absurd (refused.1 (version_text bytes a spelled))
-tables_are_read bytes a CutShort spelled refused = absurd (not_short (digest_of (body_text a)) (behind_body bytes) (behind_text bytes a spelled) (length_digest (body_text a)) refused.2)
-tables_are_read bytes a TooLong spelled refused = absurd (not_long (digest_of (body_text a)) (behind_body bytes) (behind_text bytes a spelled) (length_digest (body_text a)) refused.2)
+tables_are_read bytes a CutShort spelled refused = absurd (omega (arith, length_digest (body_text a), subst IsShort (behind_text bytes a spelled) refused.2))
+tables_are_read bytes a TooLong spelled refused = absurd (omega (arith, length_digest (body_text a), subst IsLong (behind_text bytes a spelled) refused.2))
 tables_are_read bytes a Damaged spelled refused = absurd (refused.3 (digest_text bytes a spelled))
 tables_are_read bytes a NotInOrder spelled refused = absurd (refused.1 a spelled)
 tables_are_read bytes a Memory spelled refused = refl
 
 -- ---- one table
 
-same_head : (g h : Head) → IsHead g → IsHead h → router_text g ≡ router_text h → g ≡ h
-same_head g h okg okh e =
-    let n = same_numbers (router_text g) g.generation g.nodes g.node (address_text (address_of g)) h (router_again g okg) okh e in
-    let one : address_of h ≡ address_of g = one_address _ (address_of h) (address_of g) (subst (λ (t : List ℕ). SpellsAddress t (address_of h)) n.3 (spells h okh)) (spells g okg) in
-    λ i. record { generation = sym n.0 i; nodes = sym n.1 i; node = sym n.2 i; home = (sym one i).home }
-
 pub one_table : OneTable
-one_table bytes a b sa sb =
-    let bodies : body_text a ≡ body_text b = sym (body_of_text bytes a sa).0 ∙ (body_of_text bytes b sb).0 in
-    let pa = body_parts a sa.fits in
-    let pb = body_parts b sb.fits in
-    let heads : router_text a.head ≡ router_text b.head =
-    sym (ap (λ (t : List ℕ). drop 8 t) pa.0 ∙ (head_front a.head).1) ∙ ap (λ (t : List ℕ). drop 8 (take head_size t)) bodies ∙ ap (λ (t : List ℕ). drop 8 t) pb.0 ∙ (head_front b.head).1 in
-    let head = same_head a.head b.head sa.fits.head sb.fits.head heads in
-    let lists : lists_text a.ports a.entries a.directory ≡ lists_text b.ports b.entries b.directory = sym pa.1 ∙ ap (λ (t : List ℕ). drop head_size t) bodies ∙ pb.1 in
-    let all : (a.ports, a.entries, a.directory) ≡ (b.ports, b.entries, b.directory) = same_Some {A = Lists} _ _ (sym (lists_again a sa.fits) ∙ ap lists_at lists ∙ lists_again b sb.fits) in
-    λ i. record { head = head i; ports = (all i).0; entries = (all i).1; directory = (all i).2 }
+one_table bytes a b sa sb = sym (one_body a b sa.fits sb.fits (sym (body_of_text bytes a sa).0 ∙ (body_of_text bytes b sb).0))
 
 -- ---- what was refused
 
 pub body_refused : (bytes body : List ℕ) (e : ReadRefused) → IsBodyOf bytes body → IsBodyRefused body e → IsRefusedFor bytes e
-body_refused bytes body NoTable is none = absurd none
-body_refused bytes body UnknownVersion is none = absurd none
-body_refused bytes body CutShort is none = absurd none
-body_refused bytes body TooLong is none = absurd none
-body_refused bytes body Damaged is none = absurd none
 body_refused bytes body NotInOrder is none = (is.form, λ a spelled. none a spelled.fits (is.same ∙ (body_of_text bytes a spelled).0))
 body_refused bytes body Memory is none = tt
+body_refused bytes body e is none = absurd none
 
 pub order_refused : (bytes body : List ℕ) (f : Table) → IsBodyOf bytes body → IsTableIn body f → (IsTable f → ⊥) → IsRefusedFor bytes NotInOrder
 order_refused bytes body f is read none = (is.form, λ a spelled. none (subst IsTable (read.only a spelled.fits (is.same ∙ (body_of_text bytes a spelled).0)) spelled.fits))

@@ -1,9 +1,9 @@
 -- A table says of its node what the tables of all nodes say, so packets go by it as by them.
-use Rattle.std.proofs.Common.{◌≡◌, ℕ, ◌+◌, ◌-◌, ◌<◌, ◌==◌, nat_lt, ◌&&◌, Bool, true, false, cond, List, [], ◌∷◌, length, map, Option, Some, None, refl, sym, ap, subst, ◌∙◌, arith}
+use Rattle.std.proofs.Common.{◌≡◌, ℕ, ◌+◌, ◌-◌, ◌<◌, ◌==◌, nat_lt, ◌&&◌, true, false, cond, List, [], ◌∷◌, length, map, Option, Some, None, refl, sym, ap, subst, ◌∙◌, arith, inl, inr}
 use Rattle.std.specs.Prelude.{Result, Ok, Err, is_some, option_map}
-use Rattle.std.proofs.lemmas.Bool.Decides.{nat_tests}
+use Rattle.std.proofs.lemmas.Bool.{cases_lt, le-ltb}
 use Rattle.heavy_labels.specs.Label.{Label}
-use Rattle.heavy_labels.specs.Numbering.{Step, arrived, port, no_parent, no_light, step}
+use Rattle.heavy_labels.specs.Numbering.{Step, arrived, port, step}
 use Rattle.heavy_labels.specs.Stepped.{record_of}
 use Rattle.heavy_labels.specs.declared.tree_record.Record.{Record}
 use Rattle.schemes.specs.declared.packet.Address.{Address}
@@ -12,37 +12,32 @@ use Rattle.schemes.specs.declared.packet.Packet.{Packet}
 use Rattle.schemes.specs.declared.packet.Move.{Move}
 use Rattle.schemes.specs.declared.packet.Move.TheVariants.{Delivered, Forward}
 use Rattle.schemes.specs.declared.packet.Refused.{Refused}
-use Rattle.schemes.specs.declared.packet.Refused.TheVariants.{NoNode, Stray, Unreachable}
+use Rattle.schemes.specs.declared.packet.Refused.TheVariants.{NoNode, Stray}
 use Rattle.schemes.specs.Entry.{Entry}
 use Rattle.schemes.specs.declared.parts.Listed.{Listed}
 use Rattle.schemes.specs.declared.parts.Parts.{Parts}
-use Rattle.schemes.specs.Service.{Carries, address, address_given, by_directory, decide, forward_over, move_at, move_by, node_step, one_less, packet_by, through_home}
+use Rattle.schemes.specs.Service.{Carries, address, by_directory, decide, move_at, move_by, node_step, one_less, through_home}
 use Rattle.schemes.specs.Tables.{Tables, directory_at, entries_at, first_entry, first_listed, tables}
 use Rattle.schemes.proofs.Serving.Moves.{forward_is}
 use Rattle.router_table.specs.declared.tree_entry.TreeEntry.{TreeEntry}
 use Rattle.router_table.specs.Handing.{AreTablesOf, Hands, WasHanded, hopped, launched}
 use Rattle.router_table.specs.Items.{item_at}
 use Rattle.router_table.specs.Laws.{ApartIsUnreachable, HandingEnds, TablesCarry}
-use Rattle.router_table.specs.Table.{IsTableOf, Table, address_of, entry_for, label_for, shown, shown_entry, table_at, tree_entry}
+use Rattle.router_table.specs.Table.{IsTableOf, Table, entry_for, shown, shown_entry, table_at, tree_entry}
 
 -- ---- the table of a scheme's node
 
 same_records : (r : ℕ) (es : List Entry) → option_map (λ e. e.tree_record) (item_at (λ e. e.root) r (map tree_entry es)) ≡ option_map (λ e. e.tree_record) (first_entry r es)
 same_records r [] = refl
-same_records r (e ∷ es) = go (same_records r es) (e.root == r)
-  where
-    go : option_map (λ e. e.tree_record) (item_at (λ e. e.root) r (map tree_entry es)) ≡ option_map (λ e. e.tree_record) (first_entry r es)
-        → (b : Bool) → option_map (λ e. e.tree_record) (cond b (Some (tree_entry e)) (item_at (λ e. e.root) r (map tree_entry es))) ≡ option_map (λ e. e.tree_record) (cond b (Some e) (first_entry r es))
-    go rest true = refl
-    go rest false = rest
+same_records r (e ∷ es) =
+    elim (e.root == r) as (λ b. option_map (λ e. e.tree_record) (cond b (Some (tree_entry e)) (item_at (λ e. e.root) r (map tree_entry es))) ≡ option_map (λ e. e.tree_record) (cond b (Some e) (first_entry r es))) [
+      | true ↦ refl
+      | false ↦ same_records r es
+    ]
 
 same_labels : (v : ℕ) (ms : List Listed) → option_map (λ m. m.label) (item_at (λ m. m.node) v ms) ≡ first_listed v ms
 same_labels v [] = refl
-same_labels v (m ∷ ms) = go (same_labels v ms) (m.node == v)
-  where
-    go : option_map (λ m. m.label) (item_at (λ m. m.node) v ms) ≡ first_listed v ms → (b : Bool) → option_map (λ m. m.label) (cond b (Some m) (item_at (λ m. m.node) v ms)) ≡ cond b (Some m.label) (first_listed v ms)
-    go rest true = refl
-    go rest false = rest
+same_labels v (m ∷ ms) = elim (m.node == v) as (λ b. option_map (λ m. m.label) (cond b (Some m) (item_at (λ m. m.node) v ms)) ≡ cond b (Some m.label) (first_listed v ms)) [ true ↦ refl | false ↦ same_labels v ms ]
 
 pub is_table_of : (p : Parts) (x : ℕ) → IsTableOf (tables p) x (table_at p x)
 is_table_of p x = record {
@@ -63,73 +58,52 @@ record_there None (Some f) e = cc
 record_there (Some f) None e = cc
 record_there (Some f) (Some g) e = refl
 
-module _ (t : Tables) (a : Table) (h : IsTableOf t a.head.node a) where
-  x : ℕ
-  x = a.head.node
+-- at x a table and the tables of all nodes differ in no more than what entries tell beside their records
+module _ (t : Tables) (x : ℕ) (a : Table) (h : IsTableOf t x a) where
+  abbrev half : Tables
+  half = record (shown a) { nodes = t.nodes; generation = t.generation; over = λ _ port. t.over x port; listed = λ _ node. t.listed x node }
 
-  same_packet : (v root : ℕ) (l : Label) → packet_by (shown a) v root l ≡ packet_by t v root l
-  same_packet v root l = λ i. record { generation = h.generation i; destination = v; root = root; label = l; hops_left = h.nodes i - 1 }
+  seen : shown a ≡ half
+  seen = λ i. record (shown a) { nodes = h.nodes i; generation = h.generation i; over = λ _ port. h.ports port i; listed = λ _ node. h.labels node i }
 
-  same_home : (to : Address) (o : Option Home) → through_home (shown a) a.head.node to o ≡ through_home t a.head.node to o
-  same_home to None = refl
-  same_home to (Some home) =
-      let there = record_there (entry_for a home.landmark) (t.entry a.head.node home.landmark) (h.records home.landmark) in
-      rw there (ap (λ (k : Packet). cond (is_some (t.entry a.head.node home.landmark)) (Ok k) (Err Unreachable)) (same_packet to.node home.landmark home.label))
+  by_home : (to : Address) (o : Option Home) → through_home half x to o ≡ through_home t x to o
+  by_home to None = refl
+  by_home to (Some home) = rw (record_there (entry_for a home.landmark) (t.entry x home.landmark) (h.records home.landmark)) refl
 
-  same_directory : (to : Address) (o : Option Label) → by_directory (shown a) a.head.node to o ≡ by_directory t a.head.node to o
-  same_directory to None = same_home to to.home
-  same_directory to (Some l) = ap (λ (k : Packet). Ok k) (same_packet to.node a.head.node l)
+  by_list : (to : Address) (o : Option Label) → by_directory half x to o ≡ by_directory t x to o
+  by_list to None = by_home to to.home
+  by_list to (Some l) = refl
 
-  decide_here : (to : Address) → decide (shown a) a.head.node to ≡ decide t a.head.node to
-  decide_here to =
-      let inner : by_directory (shown a) a.head.node to (label_for a to.node) ≡ by_directory t a.head.node to (t.listed a.head.node to.node) = ap (by_directory (shown a) a.head.node to) (h.labels to.node) ∙ same_directory to (t.listed a.head.node to.node) in
-      ap (λ n. cond (nat_lt a.head.node n && nat_lt to.node n) (by_directory (shown a) a.head.node to (label_for a to.node)) (Err NoNode)) h.nodes
-      ∙ ap (λ (r : Result Packet Refused). cond (nat_lt a.head.node t.nodes && nat_lt to.node t.nodes) r (Err NoNode)) inner
+  by_step : (k : Packet) (s : Step) → move_by half x k s ≡ move_by t x k s
+  by_step k arrived = refl
+  by_step k s = refl
 
-  same_move : (k : Packet) (s : Step) → move_by (shown a) a.head.node k s ≡ move_by t a.head.node k s
-  same_move k arrived = refl
-  same_move k (port q) = ap (forward_over k q) (h.ports q)
-  same_move k no_parent = refl
-  same_move k no_light = refl
-
-  move_there : (k : Packet) (o : Option TreeEntry) (q : Option Entry) → option_map (λ e. e.tree_record) o ≡ option_map (λ e. e.tree_record) q → move_at (shown a) a.head.node k (option_map shown_entry o) ≡ move_at t a.head.node k q
-  move_there k None None e = refl
-  move_there k None (Some f) e = cc
-  move_there k (Some f) None e = cc
-  move_there k (Some f) (Some g) e =
+  by_entry : (k : Packet) (o : Option TreeEntry) (q : Option Entry) → option_map (λ e. e.tree_record) o ≡ option_map (λ e. e.tree_record) q → move_at half x k (option_map shown_entry o) ≡ move_at t x k q
+  by_entry k None None e = refl
+  by_entry k None (Some f) e = cc
+  by_entry k (Some f) None e = cc
+  by_entry k (Some f) (Some g) e =
       let same : f.tree_record ≡ g.tree_record = cc in
-      same_move k (step (record_of f.tree_record) k.label) ∙ ap (λ (r : Record). move_by t a.head.node k (step (record_of r) k.label)) same
-
-  step_here : (k : Packet) → node_step (shown a) a.head.node k ≡ node_step t a.head.node k
-  step_here k =
-      let inner = move_there k (entry_for a k.root) (t.entry a.head.node k.root) (h.records k.root) in
-      ap (λ n. cond (nat_lt a.head.node n) (cond (nat_lt k.hops_left n) (move_at (shown a) a.head.node k (option_map shown_entry (entry_for a k.root))) (Err Stray)) (Err NoNode)) h.nodes
-      ∙ ap (λ (r : Result Move Refused). cond (nat_lt a.head.node t.nodes) (cond (nat_lt k.hops_left t.nodes) r (Err Stray)) (Err NoNode)) inner
-
-  pub address_here : a.head.node < a.head.nodes → Ok (address_of a.head) ≡ address_given t a.head.node
-  address_here lt =
-      let inside : nat_lt a.head.node t.nodes ≡ true = subst (λ n. nat_lt a.head.node n ≡ true) h.nodes (grind (arith, nat_tests)) in
-      let same : address_of a.head ≡ address t a.head.node = λ i. record { generation = h.generation i; node = a.head.node; home = h.home i } in
-      rw inside (ap (λ (b : Address). Ok b) same)
-
-at_node : (t : Tables) (x : ℕ) (a : Table) → IsTableOf t x a → IsTableOf t a.head.node a
-at_node t x a h = subst (λ (y : ℕ). IsTableOf t y a) (sym h.node) h
+      by_step k (step (record_of f.tree_record) k.label) ∙ ap (λ (r : Record). move_by t x k (step (record_of r) k.label)) same
 
 pub same_launch : (t : Tables) (x : ℕ) (a : Table) (to : Address) → IsTableOf t x a → launched a to ≡ decide t x to
-same_launch t x a to h = decide_here t a (at_node t x a h) to ∙ ap (λ (y : ℕ). decide t y to) h.node
+same_launch t x a to h =
+    ap (λ (y : ℕ). decide (shown a) y to) h.node ∙ ap (λ (s : Tables). decide s x to) (seen t x a h)
+    ∙ ap (λ (r : Result Packet Refused). cond (nat_lt x t.nodes && nat_lt to.node t.nodes) r (Err NoNode)) (by_list t x a h to (t.listed x to.node))
 
 pub same_hop : (t : Tables) (x : ℕ) (a : Table) (k : Packet) → IsTableOf t x a → hopped a k ≡ node_step t x k
-same_hop t x a k h = step_here t a (at_node t x a h) k ∙ ap (λ (y : ℕ). node_step t y k) h.node
+same_hop t x a k h =
+    ap (λ (y : ℕ). node_step (shown a) y k) h.node ∙ ap (λ (s : Tables). node_step s x k) (seen t x a h)
+    ∙ ap (λ (r : Result Move Refused). cond (nat_lt x t.nodes) (cond (nat_lt k.hops_left t.nodes) r (Err Stray)) (Err NoNode)) (by_entry t x a h k (entry_for a k.root) (t.entry x k.root) (h.records k.root))
 
 -- ---- from table to table
 
 -- who answers a packet is a node
 answers_inside : (t : Tables) (x : ℕ) (k : Packet) (r : Move) → node_step t x k ≡ Ok r → x < t.nodes
-answers_inside t x k r e = go (nat_lt x t.nodes) refl e
-  where
-    go : (b : Bool) → nat_lt x t.nodes ≡ b → cond b (cond (nat_lt k.hops_left t.nodes) (move_at t x k (t.entry x k.root)) (Err Stray)) (Err NoNode) ≡ Ok r → x < t.nodes
-    go true s f = grind (arith, nat_tests)
-    go false s f = absurd (let k = f in cc)
+answers_inside t x k r e = elim (cases_lt x t.nodes) [
+  | inl lt ↦ lt
+  | inr le ↦ absurd (let f = rw (le-ltb x t.nodes le) at e in cc)
+]
 
 hands : (t : Tables) (router : ℕ → Table) → AreTablesOf t router → (x : ℕ) (ys qs : List ℕ) (k : Packet) → Carries t x ys qs k → Hands router x ys qs k
 hands t router each x [] [] k c = same_hop t x (router x) k (each x (answers_inside t x k Delivered c)) ∙ c

@@ -1,5 +1,5 @@
 -- What a search by halving finds.
-use Rattle.std.proofs.Common.{◌≡◌, ◌≢◌, ◌⊎◌, ℕ, zero, suc, ◌+◌, ◌-◌, ◌<◌, ◌≤◌, length, get_or, map, List, [], ◌∷◌, Some, None, refl, sym, ap, subst, ◌∙◌, arith, inl, inr}
+use Rattle.std.proofs.Common.{◌≡◌, ◌≢◌, ℕ, zero, suc, ◌+◌, ◌-◌, ◌<◌, length, get_or, map, List, [], ◌∷◌, Some, None, refl, sym, ap, ◌∙◌, arith, inl, inr}
 use Rattle.std.specs.List.Sorted.{IsNonDecreasingBy, IsPartitionPoint, IsStrictlyIncreasing}
 use Rattle.std.specs.Ordering.{nat_cmp, ordering_index}
 use Rattle.std.specs.declared.cmp.Ordering.TheVariants.{Less, Equal, Greater}
@@ -7,6 +7,7 @@ use Rattle.std.proofs.lemmas.Bool.{cases_lt, eq-eqb, ne_eqb}
 use Rattle.std.proofs.lemmas.Cmp.{ranked}
 use Rattle.std.proofs.lemmas.List.{get_or-map, length-map}
 use Rattle.std.proofs.lemmas.Bool.Decides.{nat_tests}
+use Rattle.schemes.proofs.Basics.Searches.{rises as numbers_rise}
 use Rattle.router_table.specs.Items.{item_at}
 
 -- the first item under a number stands at a place
@@ -21,33 +22,23 @@ none_at key n [] others = refl
 none_at key n (x ∷ xs) others = rw (ne_eqb (key x) n (others 0 x (omega arith))) (none_at key n xs (λ j d lt. others (suc j) d (omega arith)))
 
 module _ {X : Type 0} (key : X → ℕ) (n : ℕ) (xs : List X) (up : IsStrictlyIncreasing (map key xs)) where
-  pub next_rises : (i : ℕ) (d : X) → i + 1 < length xs → key (get_or xs i d) < key (get_or xs (i + 1) d)
-  next_rises i d lt =
-      let many = length-map xs key in
-      let here = get_or-map key xs i d 0 (omega arith) in
-      let next = get_or-map key xs (i + 1) d 0 lt in
-      omega (arith, up i (omega (arith, many)), here, next)
-
-  far_rises : (i k : ℕ) (d : X) → i + suc k < length xs → key (get_or xs i d) < key (get_or xs (i + suc k) d)
-  far_rises i zero d lt = next_rises i d lt
-  far_rises i (suc k) d lt =
-      let e : i + suc k + 1 ≡ i + suc (suc k) = omega arith in
-      let near = far_rises i k d (omega arith) in
-      let last = next_rises (i + suc k) d (omega arith) in
-      subst (λ j. key (get_or xs i d) < key (get_or xs j d)) e (omega (arith, near, last))
-
   pub rises : (i j : ℕ) (d : X) → i < j → j < length xs → key (get_or xs i d) < key (get_or xs j d)
   rises i j d l lt =
-      let e : i + suc (j - i - 1) ≡ j = omega arith in
-      subst (λ k. key (get_or xs i d) < key (get_or xs k d)) e (far_rises i (j - i - 1) d (omega (arith, e)))
+      let many = length-map xs key in
+      let here = get_or-map key xs i d 0 (omega (arith, l, lt)) in
+      let there = get_or-map key xs j d 0 lt in
+      let up_there = numbers_rise (map key xs) up i j l (omega (arith, many, lt)) in
+      omega (arith, up_there, here, there)
+
+  pub next_rises : (i : ℕ) (d : X) → i + 1 < length xs → key (get_or xs i d) < key (get_or xs (i + 1) d)
+  next_rises i d lt = rises i (i + 1) d (omega arith) lt
 
   -- the comparisons rise along the list, as a search by halving asks
   pub comparisons_rise : IsNonDecreasingBy (λ x. ordering_index (nat_cmp (key x) n)) xs
-  comparisons_rise i j d le lt = go (cases_lt i j)
-    where
-      go : (i < j) ⊎ (j ≤ i) → ordering_index (nat_cmp (key (get_or xs i d)) n) ≤ ordering_index (nat_cmp (key (get_or xs j d)) n)
-      go (inl l) = (let up = rises i j d l lt in grind (arith, nat_tests))
-      go (inr ge) = (let same : i ≡ j = omega arith in rw same (omega arith))
+  comparisons_rise i j d le lt = elim (cases_lt i j) [
+    | inl l ↦ (let up = rises i j d l lt in grind (arith, nat_tests))
+    | inr ge ↦ (let same : i ≡ j = omega arith in rw same (omega arith))
+  ]
 
   -- what stands at the place that was found
   pub found : (at : ℕ) (x : X) → at < length xs → ((d : X) → nat_cmp (key (get_or xs at d)) n ≡ Equal) → x ≡ get_or xs at x → item_at key n xs ≡ Some x
@@ -57,8 +48,7 @@ module _ {X : Type 0} (key : X → ℕ) (n : ℕ) (xs : List X) (up : IsStrictly
 
   -- where it would stand nothing does
   pub missing : (at : ℕ) → IsPartitionPoint (λ x. nat_cmp (key x) n ≡ Less) (λ x. nat_cmp (key x) n ≡ Greater) xs at → item_at key n xs ≡ None
-  missing at parted = none_at key n xs (λ j d lt same. go j d lt same (cases_lt j at))
-    where
-      go : (j : ℕ) (d : X) → j < length xs → key (get_or xs j d) ≡ n → (j < at) ⊎ (at ≤ j) → ⊥
-      go j d lt same (inl l) = (let k : key (get_or xs j d) < n = ranked _ n _ (sym (parted.0 j d (omega arith) l)) in omega (arith, k, same))
-      go j d lt same (inr ge) = (let k : n < key (get_or xs j d) = ranked _ n _ (sym (parted.1 j d ge lt)) in omega (arith, k, same))
+  missing at parted = none_at key n xs (λ j d lt same. elim (cases_lt j at) [
+    | inl l ↦ (let k : key (get_or xs j d) < n = ranked _ n _ (sym (parted.0 j d (omega arith) l)) in omega (arith, k, same))
+    | inr ge ↦ (let k : n < key (get_or xs j d) = ranked _ n _ (sym (parted.1 j d ge lt)) in omega (arith, k, same))
+  ])

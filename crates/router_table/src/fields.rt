@@ -102,7 +102,7 @@ fn ports_fit(ports: &[u16])
 pub fn is_label(label: &Label) -> bool
     ensures { IsTrue result ↔ IsLabel label.now }
 {
-    number_fits(label.first());
+    let _first = label.first();
     ports_fit(label.lights());
     true
 }
@@ -129,10 +129,7 @@ pub fn is_head(head: &Head) -> bool
     ensures { IsTrue result ↔ IsHead head.now }
 {
     let _generation = head.generation;
-    if head.node >= head.nodes {
-        return false;
-    }
-    is_home(&head.home, head.nodes)
+    head.node < head.nodes && is_home(&head.home, head.nodes)
 }
 
 /// Whether the three lists of a table are in order.

@@ -1,4 +1,4 @@
-ghost use Rattle.std.specs.Prelude.{◌≡◌, IfErr, IfOk, MatchOption, MatchResult, Ok, map, slice_get};
+ghost use Rattle.std.specs.Prelude.{◌≡◌, IfErr, IfOk, MatchOption, MatchResult, Ok, map};
 ghost use Rattle.schemes.specs.Service.{address_given, decide as packet_given, node_step as move_given};
 ghost use Rattle.schemes.specs.Tables.{Tables, tables};
 ghost use Rattle.router_table.specs.Fields.{table_of};
@@ -206,13 +206,6 @@ impl NodeRows for RouterTable {
     }
 
     fn over(&self, port: u16) -> Option<u16> {
-        port_at(self.fields.ports.as_slice(), port)
+        self.fields.ports.as_slice().get(port as usize).copied()
     }
-}
-
-/// The neighbour behind a port.
-fn port_at(ports: &[u16], port: u16) -> Option<u16>
-    ensures { result ≡ slice_get ports.now port }
-{
-    ports.get(port as usize).copied()
 }

@@ -12,7 +12,7 @@ use Rattle.router_table.proofs.BodyTexts.{body_parts, body_read, head_front}
 use Rattle.router_table.proofs.FormTexts.{body_of_text}
 use Rattle.byte_forms.specs.Forms.{IsBytes}
 use Rattle.table_view.specs.Listing.{AreListsIn, IsBody}
-use Rattle.table_view.proofs.Lists.{is_read, lists_in_text}
+use Rattle.table_view.proofs.Lists.{lists_in_text}
 
 module _ (body front rest router : List ℕ) (front_is : front ≡ take head_size body) (rest_is : rest ≡ drop head_size body) (router_is : router ≡ drop 8 front) where
   its_router : (is : IsBody body) → router ≡ router_text is.table.head
@@ -39,23 +39,20 @@ module _ (body front rest router : List ℕ) (front_is : front ≡ take head_siz
     pub is_body : IsBytes body → take 8 body ≡ letters ++ version → head_size ≤ length body → IsHead h → AreListsIn rest h → IsBody body
     unfolding lists_at
     is_body ok first long order lists =
-        let ports = is_read _ _ _ _ _ _ _ lists.ports in
-        let entries = is_read _ _ _ _ _ _ _ lists.entries in
-        let members = is_read _ _ _ _ _ _ _ lists.members in
-        let table : Table = record { head = h; ports = ports.items; entries = entries.items; directory = members.items } in
+        let table : Table = record { head = h; ports = lists.ports.items; entries = lists.entries.items; directory = lists.members.items } in
         record {
           table = table;
           fits = record {
             head = order;
             lists = record {
-              ports = ports.order;
-              entries = entries.order;
-              directory = members.order;
-              records = subst (λ n. All (λ e. IsRecord n e.tree_record) entries.items) (sym ports.many) entries.each;
-              labels = members.each;
+              ports = lists.ports.order;
+              entries = lists.entries.order;
+              directory = lists.members.order;
+              records = subst (λ n. All (λ e. IsRecord n e.tree_record) lists.entries.items) (sym lists.ports.many) lists.entries.each;
+              labels = lists.members.each;
             };
           };
-          text = (body_read body front rest table ok first long front_is rest_is (subst (λ (t : List ℕ). IsHeadIn t h) router_is read) (rw (ports.read, entries.read, members.read) refl)).text;
+          text = (body_read body front rest table ok first long front_is rest_is (subst (λ (t : List ℕ). IsHeadIn t h) router_is read) (rw (lists.ports.read, lists.entries.read, lists.members.read) refl)).text;
         }
 
 pub not_spelled : (bytes body : List ℕ) → IsBodyOf bytes body → (IsBody body → ⊥) → IsRefusedFor bytes NotInOrder

@@ -3,7 +3,7 @@ pub mod Entries
 pub mod Halving
 pub mod Packets
 pub mod Moves
+pub mod Lists
 pub mod Walks
 pub mod Launching
-pub mod Lists
 pub mod Forms

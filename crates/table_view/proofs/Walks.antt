@@ -8,10 +8,10 @@ use Rattle.std.proofs.lemmas.Option.{none-some, same_Some}
 use Rattle.schemes.specs.declared.parts.Listed.{Listed}
 use Rattle.packet_bytes.specs.Layout.{most_ports}
 use Rattle.router_table.specs.Items.{item_at}
-use Rattle.byte_forms.specs.FormLaws.{bind_some}
-use Rattle.byte_forms.specs.Reading.{◌>>=◌, byte_at, items_at, list_at, number_at, short_at}
+use Rattle.byte_forms.specs.Reading.{byte_at, items_at, list_at, number_at, short_at}
 use Rattle.router_table.specs.MemberForm.{label_at, member_at}
 use Rattle.table_view.specs.Parts.{cut_at, member_head_at}
+use Rattle.table_view.proofs.Lists.{next_of}
 
 -- so many ports are found where there are so many bytes, and behind them stands what stands behind those
 ports_cut : (n : ℕ) (bytes : List ℕ) → (ports : List ℕ) × (items_at (number_at w16) n bytes ≡ option_map (λ (x : List ℕ × List ℕ). (ports, x.1)) (cut_at (2 * n) bytes))
@@ -55,51 +55,34 @@ module _ (bytes : List ℕ) (ms : List Listed) (rest : List ℕ) (is : list_at m
       let e : count ≡ count - 0 = omega arith in
       record { left = ms; read = subst (λ n. items_at member_at n members ≡ Some (ms, rest)) e (sym all ∙ is); same = refl }
 
--- the first of so many members, and the others behind it
-record HasNext (n : ℕ) (bytes : List ℕ) (left : List Listed) (rest : List ℕ) : Type 0 where
-  pub member : Listed
-  pub others : List Listed
-  pub behind : List ℕ
-  pub first : member_at bytes ≡ Some (member, behind)
-  pub more : items_at member_at n behind ≡ Some (others, rest)
-  pub all : left ≡ member ∷ others
-
-next_of : (n : ℕ) (bytes : List ℕ) (left : List Listed) (rest : List ℕ) → items_at member_at (suc n) bytes ≡ Some (left, rest) → HasNext n bytes left rest
-unfolding items_at
-next_of n bytes left rest read =
-    let a = bind_some (member_at bytes) (λ first. items_at member_at n first.1 >>= λ others. Some (first.0 ∷ others.0, others.1)) (left, rest) read in
-    let b = bind_some (items_at member_at n a.0.1) (λ others. Some (a.0.0 ∷ others.0, others.1)) (left, rest) a.2 in
-    let same = same_Some {A = List Listed × List ℕ} (a.0.0 ∷ b.0.0, b.0.1) (left, rest) b.2 in
-    record { member = a.0.0; others = b.0.0; behind = a.0.1; first = a.1; more = b.1 ∙ ap (λ (x : List Listed × List ℕ). Some (b.0.0, x.1)) same; all = sym (ap (λ (x : List Listed × List ℕ). x.0) same) }
-
 module _ (count counter node : ℕ) (bytes : List ℕ) (ms : List Listed) (rest : List ℕ) (lt : counter < count) (is : IsLeft count counter node bytes ms rest) where
-  next : HasNext (count - (counter + 1)) bytes is.left rest
-  next = (let e : count - counter ≡ suc (count - (counter + 1)) = omega (arith, lt) in next_of (count - (counter + 1)) bytes is.left rest (subst (λ n. items_at member_at n bytes ≡ Some (is.left, rest)) e is.read))
+  next : (x : Listed × List ℕ) × (others : List Listed) × (member_at bytes ≡ Some x) × (items_at member_at (count - (counter + 1)) x.1 ≡ Some (others, rest)) × (is.left ≡ x.0 ∷ others)
+  next = (let e : count - counter ≡ suc (count - (counter + 1)) = omega (arith, lt) in next_of member_at (count - (counter + 1)) bytes is.left rest (subst (λ n. items_at member_at n bytes ≡ Some (is.left, rest)) e is.read))
 
   pub has_member : member_at bytes ≡ None → ⊥
-  has_member none = none-some _ (sym none ∙ next.first)
+  has_member none = none-some _ (sym none ∙ next.2)
 
-  head_there : member_head_at bytes ≡ Some (next.member.node, next.behind)
-  head_there = rw next.first refl
+  head_there : member_head_at bytes ≡ Some (next.0.0.node, next.0.1)
+  head_there = rw next.2 refl
 
   pub has_head : member_head_at bytes ≡ None → ⊥
   has_head none = none-some _ (sym none ∙ head_there)
 
-  its_head : (n : ℕ) (after : List ℕ) → member_head_at bytes ≡ Some (n, after) → ◌≡◌ {A = ℕ × List ℕ} (n, after) (next.member.node, next.behind)
+  its_head : (n : ℕ) (after : List ℕ) → member_head_at bytes ≡ Some (n, after) → ◌≡◌ {A = ℕ × List ℕ} (n, after) (next.0.0.node, next.0.1)
   its_head n after found = same_Some {A = ℕ × List ℕ} _ _ (sym found ∙ head_there)
 
   pub is_found : (n : ℕ) (after : List ℕ) (m : Listed × List ℕ) → member_head_at bytes ≡ Some (n, after) → n ≡ node → member_at bytes ≡ Some m → found_in node ms ≡ Some m.0
   is_found n after m head here found =
-      let key : next.member.node ≡ node = sym (ap (λ (x : ℕ × List ℕ). x.0) (its_head n after head)) ∙ here in
-      is.same ∙ ap (found_in node) next.all ∙ rw (eq-eqb next.member.node node key) (ap (λ (x : Listed × List ℕ). Some x.0) (same_Some _ _ (sym next.first ∙ found)))
+      let key : next.0.0.node ≡ node = sym (ap (λ (x : ℕ × List ℕ). x.0) (its_head n after head)) ∙ here in
+      is.same ∙ ap (found_in node) next.4 ∙ rw (eq-eqb next.0.0.node node key) (ap (λ (x : Listed × List ℕ). Some x.0) (same_Some _ _ (sym next.2 ∙ found)))
 
   pub goes_on : (n : ℕ) (after : List ℕ) → member_head_at bytes ≡ Some (n, after) → (n ≡ node → ⊥) → IsLeft count (counter + 1) node after ms rest
   goes_on n after found other =
       let e = its_head n after found in
       record {
-        left = next.others;
-        read = ap (λ (x : ℕ × List ℕ). items_at member_at (count - (counter + 1)) x.1) e ∙ next.more;
-        same = is.same ∙ ap (found_in node) next.all ∙ rw (ne_eqb next.member.node node (λ h. other (ap (λ (x : ℕ × List ℕ). x.0) e ∙ h))) refl;
+        left = next.1;
+        read = ap (λ (x : ℕ × List ℕ). items_at member_at (count - (counter + 1)) x.1) e ∙ next.3;
+        same = is.same ∙ ap (found_in node) next.4 ∙ rw (ne_eqb next.0.0.node node (λ h. other (ap (λ (x : ℕ × List ℕ). x.0) e ∙ h))) refl;
       }
 
 -- no member is left

@@ -1,27 +1,24 @@
 -- Lists in bytes that are in order.
-use Rattle.std.specs.Prelude.{◌≡◌, ℕ, zero, suc, ◌+◌, ◌≤◌, ◌<◌, List, [], Option, Some}
+use Rattle.std.specs.Prelude.{◌≡◌, ℕ, List, [], Option, Some, length}
+use Rattle.std.specs.List.{All}
 use Rattle.std.specs.Int.{w16}
 use Rattle.packet_bytes.specs.Spelling.{IsLabel}
-use Rattle.byte_forms.specs.Reading.{number_at}
+use Rattle.byte_forms.specs.Reading.{list_at, number_at}
 use Rattle.router_table.specs.declared.head.Head.{Head}
 use Rattle.router_table.specs.EntryForm.{entry_at}
+use Rattle.router_table.specs.Items.{AreInOrder}
 use Rattle.router_table.specs.MemberForm.{member_at}
 use Rattle.router_table.specs.Order.{IsRecord, IsTable}
 use Rattle.router_table.specs.Spelling.{body_text}
 use Rattle.router_table.specs.Table.{Table}
 
--- So many items stand at the front, and the bytes behind them: their numbers rise from the least one that may come, below a limit, and each
--- is good.
-abbrev pub AreItemsIn : {X : Type 0} → (List ℕ → Option (X × List ℕ)) → (X → ℕ) → (X → Type 0) → ℕ → ℕ → ℕ → List ℕ → List ℕ → Type 0
-AreItemsIn {X} found key good limit least zero bytes rest = bytes ≡ rest
-AreItemsIn {X} found key good limit least (suc n) bytes rest =
-    (x : X) × (after : List ℕ) × (found bytes ≡ Some (x, after)) × (least ≤ key x) × (key x < limit) × good x × AreItemsIn found key good limit (key x + 1) n after rest
-
--- a list whose items rise stands at the front: so many, and the bytes behind it
+-- a list in order stands at the front: so many items, each good, whose numbers rise below a limit, and the bytes behind them
 pub record IsListIn {X : Type 0} (found : List ℕ → Option (X × List ℕ)) (key : X → ℕ) (good : X → Type 0) (limit : ℕ) (bytes : List ℕ) (count : ℕ) (rest : List ℕ) : Type 0 where
-  pub first : List ℕ
-  pub number : number_at w16 bytes ≡ Some (count, first)
-  pub items : AreItemsIn found key good limit 0 count first rest
+  pub items : List X
+  pub read : list_at found bytes ≡ Some (items, rest)
+  pub many : length items ≡ count
+  pub order : AreInOrder key limit items
+  pub each : All good items
 
 -- the ports, the entries and the members of a table, in a network of so many nodes; entries of a node with so many ports
 abbrev pub ArePortsIn : ℕ → List ℕ → ℕ → List ℕ → Type 0

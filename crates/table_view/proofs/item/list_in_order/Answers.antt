@@ -1,10 +1,9 @@
-use Rattle.std.proofs.Common.{arith, sym, ◌∙◌}
-use Rattle.std.proofs.lemmas.Option.{none-some}
-use Rattle.table_view.proofs.Lists.{at_first, ends, goes_on, is_done, no_list, stops}
+use Rattle.std.proofs.Common.{arith}
+use Rattle.table_view.proofs.Lists.{a_list, at_first, ends, goes_on, is_done, no_count, no_list, stops}
 use Rattle.table_view.proofs.item.list_in_order.Goals as goal
 
 pub returns-in_default : goal.returns-in_default
-returns-in_default g c n rest is = none-some _ (sym c.in_default.ensures ∙ is.number)
+returns-in_default g c = no_count g.F.Form.form.at g.F.Item.key (g.F.Item.IsGood c.args.ports) c.args.limit c.args.bytes.now c.in_default.ensures
 
 pub loop-init : goal.loop-init
 loop-init g c = record { reading = at_first g.F.Form.form.at g.F.Item.key (g.F.Item.IsGood c.args.ports) c.args.limit c.in-Some.count c.in-Some.items.now; fits = omega arith }
@@ -29,8 +28,6 @@ loop-preserved g c =
     }
 
 pub returns : goal.returns
-returns g c = record {
-  first = c.in-Some.items.now;
-  number = c.in-Some.ensures;
-  items = is_done g.F.Form.form.at g.F.Item.key (g.F.Item.IsGood c.args.ports) c.args.limit c.in-Some.count c.loop.counter c.loop.least c.in-Some.items.now c.loop.rest.now c.loop.invariant.reading c.loop-test.false;
-}
+returns g c =
+    a_list g.F.Form.form.at g.F.Item.key (g.F.Item.IsGood c.args.ports) c.args.limit c.args.bytes.now c.in-Some.count c.in-Some.items.now c.in-Some.ensures c.loop.rest.now
+    (is_done g.F.Form.form.at g.F.Item.key (g.F.Item.IsGood c.args.ports) c.args.limit c.in-Some.count c.loop.counter c.loop.least c.in-Some.items.now c.loop.rest.now c.loop.invariant.reading c.loop-test.false)

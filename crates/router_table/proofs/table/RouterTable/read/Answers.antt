@@ -17,7 +17,6 @@ returns-in-None-clause-refused c = order_refused c.args.bytes.now c.in_ok-body.b
 
 pub returns-in-Some-clause-read : goal.returns-in-Some-clause-read
 returns-in-Some-clause-read c =
-    let table = c.in-Some.table in
     let read = c.in_ok-fields.ensures in
     let made = c.in-Some.ensures in
     subst (λ (a : Table). SpellsTable c.args.bytes.now a) (sym made.0) (is_spelled c.args.bytes.now c.in_ok-body.body.now (table_of c.in_ok-fields.fields) c.in_ok-body.ensures read (subst (λ (a : Table). IsTable a) made.0 made.1))
