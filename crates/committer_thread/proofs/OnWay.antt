@@ -1,10 +1,9 @@
 -- How builds go on beside the rounds.
-use Rattle.std.proofs.Common.{◌≡◌, ◌≢◌, ◌≤◌, ◌<◌, ℕ, zero, suc, List, [], ◌++◌, length, take, drop, Option, Some, None, Bool, true, false, IsTrue, refl, sym, ap, ◌∙◌, subst, append-nil, arith, length-append, le_refl}
-use Rattle.std.specs.Prelude.{IfSome, nat_lt}
+use Rattle.std.proofs.Common.{◌≡◌, ◌≢◌, ◌≤◌, ◌<◌, ℕ, List, [], ◌++◌, length, take, drop, Option, Some, None, IsTrue, sym, ap, ◌∙◌, subst, append-nil, arith, length-append, le_refl}
+use Rattle.std.specs.Prelude.{IfSome}
 use Rattle.std.specs.Option.{option_map}
-use Rattle.std.proofs.lemmas.Bool.{ltb-false, ltb-true}
 use Rattle.std.proofs.lemmas.List.{take-append-le}
-use Rattle.std.proofs.Math.Seq.{take-length}
+use Rattle.std.proofs.Math.Seq.{take-length, take-nil}
 use Rattle.graph_edits.specs.Edges.{Network}
 use Rattle.requests.specs.declared.request.Request.{Request}
 use Rattle.layout_2.specs.State.{State}
@@ -102,14 +101,10 @@ earlier_of s c newest number of scheme none way built same =
 
 -- ---- the committer
 
-take_none : (n : ℕ) (rs : List Request) → rs ≡ [] → take n rs ≡ []
-take_none zero rs e = refl
-take_none (suc n) rs e = ap (λ (l : List Request). take (suc n) l) e
-
 -- a committer that took nothing is listed from its store's state alone
 pub listed_state : {D R : Type 0} {V : _} → (builds : Builds) (s : State) (c : Committer D R V) → got_of c ≡ [] → IsListedFrom builds s c → s ≡ state_of (store_of c)
 listed_state builds s c none is =
-    sym (is.lists.state_is ∙ ap (λ (l : List Request). (settle s l).state) (take_none is.done (got_of c) none))
+    sym (is.lists.state_is ∙ ap (λ (l : List Request). (settle s l).state) (ap (λ (l : List Request). take is.done l) none ∙ take-nil is.done))
 
 -- a committer that stayed put, but for what it posted
 pub on_course_put : {builds : Builds} {D R : Type 0} {V : _} → (first old new : Committer D R V) → IsOnCourse builds first old → StaysPut old new → StaysListedSo builds first new → IsOnCourse builds first new
@@ -166,39 +161,20 @@ goes_round first old new rebuilds goes turn done lists shown =
           (λ b way. on_way_more s (got_of old) (taken old new) rebuilds.newest (graph_of b) way) goes.building);
     }
 
+-- what is being built, where something is
+pub way_of : {D R : Type 0} {V : _} → (first now : Committer D R V) (rebuilds : RebuildSchedule) (build : Build) → GoesBeside first now rebuilds → rebuilds.building ≡ Some build → IsOnWay (state_of (store_of first)) (got_of now) rebuilds.newest (graph_of build)
+way_of first now rebuilds build goes some = subst (λ (o : Option Build). IfSome o (λ b. IsOnWay (state_of (store_of first)) (got_of now) rebuilds.newest (graph_of b))) some goes.building
+
 -- what was taken stays one list with what was built
 pub goes_listed : {D R : Type 0} {V : _} → (first old new : Committer D R V) (rebuilds : RebuildSchedule) (build : Build) → GoesBeside first old rebuilds → rebuilds.building ≡ Some build → StaysListedWith (graph_of build) old new → StaysListedSo Beside first new
 goes_listed first old new rebuilds build goes some lists s is =
     let same = listed_state Beside s first goes.begun is in
-    let way : IsOnWay (state_of (store_of first)) (got_of old) rebuilds.newest (graph_of build) = subst (λ (o : Option Build). IfSome o (λ b. IsOnWay (state_of (store_of first)) (got_of old) rebuilds.newest (graph_of b))) some goes.building in
-    lists s rebuilds.newest (subst (λ (x : State). IsOnWay x (got_of old) rebuilds.newest (graph_of build)) (sym same) way) (goes.on.listed s is)
+    lists s rebuilds.newest (subst (λ (x : State). IsOnWay x (got_of old) rebuilds.newest (graph_of build)) (sym same) (way_of first old rebuilds build goes some)) (goes.on.listed s is)
 
--- where a number isn't reached and isn't passed
-less : (a b : ℕ) → a ≤ b → a ≢ b → a < b
-less a b le other = by (nat_lt a b) refl
-  where
-    by : (test : Bool) → nat_lt a b ≡ test → a < b
-    by true is = ltb-true a b is
-    by false is = absurd (let past = ltb-false a b is in other (omega (arith, le, past)))
-
--- the same of the newest one, where there is one
+-- a newest number that isn't passed, and isn't this one, is below
 below : (newest : Option ℕ) (count : ℕ) → IfSome newest (λ n. n ≤ count) → newest ≢ Some count → IfSome newest (λ n. n < count)
-below (Some n) count le other = less n count le (λ same. other (ap (λ (k : ℕ). Some k) same))
+below (Some n) count le other = (let most : n ≤ count = le in let apart : n ≢ count = λ same. other (ap (λ (k : ℕ). Some k) same) in omega (arith, most, apart))
 below None count le other = tt
-
--- nothing changed but what no clause speaks of
-pub goes_same : {D R : Type 0} {V : _} → (first now : Committer D R V) (before after : RebuildSchedule) → GoesBeside first now before → after.newest ≡ before.newest → after.building ≡ before.building → GoesBeside first now after
-goes_same first now before after goes newest building = record {
-  begun = goes.begun;
-  on = goes.on;
-  shown = subst (λ (n : Option ℕ). IsShown n now) (sym newest) goes.shown;
-  reached = subst (λ (n : Option ℕ). IfSome n (λ k. k ≤ (state_of (store_of now)).count)) (sym newest) goes.reached;
-  building = subst (λ (x : Option ℕ × Option Build). IfSome x.1 (λ b. IsOnWay (state_of (store_of first)) (got_of now) x.0 (graph_of b))) (λ i. (sym newest i, sym building i)) goes.building;
-}
-
--- what is being built, where something is
-pub way_of : {D R : Type 0} {V : _} → (first now : Committer D R V) (rebuilds : RebuildSchedule) (build : Build) → GoesBeside first now rebuilds → rebuilds.building ≡ Some build → IsOnWay (state_of (store_of first)) (got_of now) rebuilds.newest (graph_of build)
-way_of first now rebuilds build goes some = subst (λ (o : Option Build). IfSome o (λ b. IsOnWay (state_of (store_of first)) (got_of now) rebuilds.newest (graph_of b))) some goes.building
 
 -- it may be posted
 pub goes_stand : {D R : Type 0} {V : _} → (first now : Committer D R V) (rebuilds : RebuildSchedule) (build : Build) → GoesBeside first now rebuilds → rebuilds.building ≡ Some build → MayStand (state_of (store_of now)) rebuilds.newest (graph_of build)

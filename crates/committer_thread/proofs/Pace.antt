@@ -1,7 +1,6 @@
 -- How what a committer posts goes with the pace of its rebuilds.
-use Rattle.std.proofs.Common.{◌≡◌, ◌≢◌, ◌↔◌, ◌⊎◌, inl, inr, ⊎_elim, ◌+◌, ◌++◌, ◌∷◌, [], ℕ, Bool, false, List, IsTrue, Option, None, Some, length, refl, sym, ap, ◌∙◌, subst, append-nil}
+use Rattle.std.proofs.Common.{◌≡◌, ◌+◌, ◌++◌, ◌∷◌, [], ℕ, Bool, List, Option, Some, length, refl, sym, ap, ◌∙◌, subst, append-nil}
 use Rattle.std.specs.Option.{option_map}
-use Rattle.std.proofs.lemmas.Bool.{cases_eq}
 use Rattle.requests.specs.declared.request.Request.{Request}
 use Rattle.layout_2.specs.State.{State}
 use Rattle.checkpoint.specs.StoreWords.{state_of}
@@ -15,15 +14,14 @@ use Rattle.generations.proofs.Lawfulness.{count_as_told}
 use Rattle.generations.proofs.Numbers.{now_newest, same_newest}
 use Rattle.schemes.specs.declared.parts.Parts.{Parts}
 use Rattle.committer.specs.declared.committer.Committer.{Committer}
-use Rattle.committer.specs.Answers.{HasCommitted, HasRebuilt, asked_group}
+use Rattle.committer.specs.Answers.{HasCommitted, asked_group}
 use Rattle.committer.specs.CommitterWords.{posts_of, store_of}
 use Rattle.committer.specs.Outboxes.{Outgoing, paid, with_posted}
-use Rattle.committer.specs.Rebuilds.{IsServed}
 use Rattle.committer.specs.Rounds.{with_marks_of}
 use Rattle.committer.specs.Ties.{IsTied}
-use Rattle.packet_ways.specs.Standing.{Counts, IsNewest}
+use Rattle.packet_ways.specs.Standing.{Counts}
 use Rattle.service_actors.specs.Stands.{HasNewest}
-use Rattle.committer_thread.specs.Pace.{IsDue, IsShown, IsUpToDate}
+use Rattle.committer_thread.specs.Pace.{IsShown, IsUpToDate}
 
 -- what an outbox has posted
 abbrev board_of : Outgoing → Beginning
@@ -65,23 +63,6 @@ shown_round number accepted old new is done = shown_so number new _ done.posts (
 
 -- ---- a rebuild
 
--- the newest generation is the store's
-served_newest : (state : State) (o : Outgoing) → IsServed state o.posted → IsNewest (board_of o) state.count
-served_newest state o is = ap (option_map (λ g. g.0)) is.1.0
-
--- by one call
-pub shown_rebuilt : {D R : Type 0} {V : _} → (words : List ℕ) (answer : ℕ) (old new : Committer D R V) → store_of new ≡ store_of old → HasRebuilt words old new answer → IsUpToDate new
-shown_rebuilt words answer old new same done =
-    subst (λ s. IsShown (Some (state_of s).count) new) (sym same) (record {
-      nothing_due = ⊎_elim (λ none. ap (λ (o : Outgoing). o.due) none) (λ built. ap (λ (o : Outgoing). o.due) built.1.1) done.posts;
-      newest = served_newest (state_of (store_of old)) (posts_of new) done.serves;
-    })
-
--- where it was there already
-pub shown_still : {D R : Type 0} {V : _} → (old new : Committer D R V) → store_of new ≡ store_of old → (posts_of new).due ≡ [] → IsServed (state_of (store_of old)) (posts_of new).posted → IsUpToDate new
-shown_still old new same none serves =
-    subst (λ s. IsShown (Some (state_of s).count) new) (sym same) (record { nothing_due = none; newest = served_newest (state_of (store_of old)) (posts_of new) serves })
-
 -- one that is posted behind all is the newest
 pub shown_posted : {D R : Type 0} {V : _} → (old new : Committer D R V) (number : ℕ) (scheme : Parts) → posts_of new ≡ with_posted (posts_of old) (Built number scheme) → IsShown (Some number) new
 shown_posted old new number scheme posted =
@@ -92,25 +73,6 @@ pub shown_announced : {D R : Type 0} {V : _} → (old new : Committer D R V) (nu
 shown_announced old new number scheme same posted = subst (λ (n : ℕ). IsShown (Some n) new) same (shown_posted old new number scheme posted)
 
 -- ---- what is due
-
--- a number is the newest one, or it isn't
-same_or_other : (newest : Option ℕ) (count : ℕ) → (newest ≡ Some count) ⊎ (newest ≢ Some count)
-same_or_other (Some n) count = ⊎_elim (λ same. inl (ap (λ (k : ℕ). Some k) same)) (λ other. inr (λ e. other (some_same n count e))) (cases_eq n count)
-  where
-    some_same : (n k : ℕ) → ◌≡◌ {A = Option ℕ} (Some n) (Some k) → n ≡ k
-    some_same n k e = cc
-same_or_other None count = inr (λ e. none_some count e)
-  where
-    none_some : (k : ℕ) → ◌≡◌ {A = Option ℕ} None (Some k) → ⊥
-    none_some k e = cc
-
--- where nothing was taken and nothing is due, the newest generation has this count
-pub none_due : (due : Bool) (newest : Option ℕ) (count taken owed rounds : ℕ) → (IsTrue due ↔ IsDue newest count taken owed rounds) → due ≡ false → taken ≡ 0 → newest ≡ Some count
-none_due due newest count taken owed rounds tells none idle =
-    ⊎_elim (λ same. same) (λ other. absurd (no_true due none (tells.1 (record { behind = other; now = inl idle })))) (same_or_other newest count)
-  where
-    no_true : (b : Bool) → b ≡ false → IsTrue b → ⊥
-    no_true b is told = (let both = sym told ∙ is in absurd (cc))
 
 pub up_to_date : {D R : Type 0} {V : _} → (c : Committer D R V) (newest : Option ℕ) → IsShown newest c → newest ≡ Some (state_of (store_of c)).count → IsUpToDate c
 up_to_date c newest is same = subst (λ (n : Option ℕ). IsShown n c) same is

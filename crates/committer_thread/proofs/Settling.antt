@@ -1,5 +1,5 @@
 -- What is left on a device over turns: the states after beginnings of what was taken.
-use Rattle.std.proofs.Common.{◌≡◌, ◌⊎◌, inl, ◌≤◌, append-nil, ◌==◌, ◌∷◌, refl, ℕ, ◌+◌, List, [], ◌++◌, length, drop, IsTrue, false, arith, ap, sym, ◌∙◌, subst, ⊎_elim}
+use Rattle.std.proofs.Common.{◌≡◌, ◌⊎◌, ◌≤◌, ◌==◌, ◌∷◌, refl, ℕ, ◌+◌, List, [], ◌++◌, length, drop, IsTrue, false, arith, ap, sym, ◌∙◌, subst, ⊎_elim}
 use Rattle.std.proofs.lemmas.List.{take-append-le, length-append}
 use Rattle.std.proofs.lemmas.List.Elements.{filter-append}
 use Rattle.std.proofs.Math.Seq.{take-length}
@@ -13,7 +13,6 @@ use Rattle.checkpoint.specs.declared.store.Store.{Store}
 use Rattle.checkpoint.specs.StoreWords.{state_of, view_of, is_down, stands_now}
 use Rattle.intake.specs.Ends.{HasTaken, Taking}
 use Rattle.intake.specs.Turns.{AreOfEditors, of}
-use Rattle.generations.proofs.Keeping.{drop_whole}
 use Rattle.group_commit.specs.Settling.{Settled, settle}
 use Rattle.group_commit.proofs.SettlingLemmas.{settle-append}
 use Rattle.committer.specs.declared.committer.Committer.{Committer}
@@ -24,7 +23,7 @@ use Rattle.request_lists.proofs.Posted.{posted_first}
 use Rattle.committer.specs.CommitterWords.{store_of, held_of, taker_of, queue_of, got_of, posts_of, taken, settled}
 use Rattle.committer.specs.Answers.{StaysPut}
 use Rattle.committer.specs.Listed.{IsListedFrom, StaysListed, StaysListedSo}
-use Rattle.committer_thread.specs.Kept.{HasFailed, HasLostDevice, HasSettled, HasSettledAll, HasSettledSome, HasTurned, IsFresh, IsOnCourse, IsServedDisk, KeepsQueue, LeavesBeginnings, PostsAlong, StandsForBeginning}
+use Rattle.committer_thread.specs.Kept.{HasSettled, HasSettledAll, HasSettledSome, HasTurned, IsFresh, IsOnCourse, IsServedDisk, KeepsQueue, LeavesBeginnings, PostsAlong, StandsForBeginning}
 
 -- ---- beginnings of a list
 
@@ -57,10 +56,6 @@ some_settled store up = ([], none_settled store up)
 -- one call behind another
 pub listed_twice : {D R : Type 0} {V : _} → (old mid new : Committer D R V) → StaysListed old mid → StaysListed mid new → StaysListed old new
 listed_twice old mid new first second builds state is = second builds state (first builds state is)
-
--- nothing was done
-pub listed_same : {D R : Type 0} {V : _} → (c : Committer D R V) → StaysListed c c
-listed_same c builds state is = is
 
 -- a store that is up stands for its state
 stands_after : {D : Type 0} {V : _} → (store : Store D V) (state : State) → is_down store ≡ false → state_of store ≡ state → IsTrue (view_of store).keeps_model → KeepsThrough (view_of store) state
@@ -158,10 +153,6 @@ queue_taken old new same taken = record {
       ⊎_elim (λ none. ap (of s) none.0 ∙ all s (subst (λ (n : ℕ). n ≤ s) taken.made above)) (λ some. none_in_front s (got_of new) some.0 (some.1.0.1 s above)) taken.all;
 }
 
--- .. and a rebuild behind that
-pub queue_turned : {D R : Type 0} {V : _} → (old mid new : Committer D R V) → queue_of mid ≡ queue_of old → HasTaken (taker_of old) (taker_of mid) → taker_of new ≡ taker_of mid → KeepsQueue old new
-queue_turned old mid new same taken still = queue_twice old mid new (queue_taken old mid same taken) (queue_same mid new still)
-
 -- ---- the beginning
 
 -- a committer that has taken nothing
@@ -210,29 +201,6 @@ still_turned {V = V} old mid new stays turn =
           (subst (λ s. IsTrue (view_of s).keeps_model → is_down s ≡ false → LeavesOnly (view_of s) (view_of (store_of new))
           (λ image. StandsFor (state_of s) image ⊎ StandsFor (settle (state_of s) (held_of mid ++ drop (length (got_of mid)) (got_of new))).state image)) stays.store turn.any_moment));
     }
-
--- a device that failed behind a posting
-pub still_lost : {D R : Type 0} {V : _} → (old mid new : Committer D R V) → StaysPut old mid → HasLostDevice mid new → HasLostDevice old new
-still_lost old mid new stays lost = subst (λ s. HasFailed (view_of s) (view_of (store_of new))) stays.store lost
-
--- nothing was done but to post
-pub put_turned : {D R : Type 0} {V : _} → (old new : Committer D R V) → is_down (store_of old) ≡ false → StaysPut old new → HasTurned old new
-put_turned {V = V} old new up stays =
-    let got : got_of new ≡ got_of old = λ i. (stays.taker i).got in
-    record {
-      front = got ∙ (sym (append-nil (got_of old)) ∙ ap (λ (l : List Request). got_of old ++ l) (sym (ap (λ (l : List Request). drop (length (got_of old)) l) got ∙ drop_whole (got_of old))));
-      same = subst (λ s. IsSameDevice (view_of (store_of old)) (view_of s)) (sym stays.store) (ran_none (view_of (store_of old)));
-      any_moment = λ model _.
-          subst (λ s. LeavesOnly (view_of (store_of old)) (view_of s) (λ image. StandsFor (state_of (store_of old)) image ⊎ StandsFor (settled old new).state image)) (sym stays.store)
-          (started (view_of (store_of old)) (λ image. StandsFor (state_of (store_of old)) image ⊎ StandsFor (settled old new).state image) (λ image left. inl (stands_now (store_of old) model up image left)));
-    }
-
-pub settled_still : {D R : Type 0} {V : _} → (old mid new : Committer D R V) → HasSettledAll old mid → StaysPut mid new → HasSettledAll old new
-settled_still old mid new done stays = record {
-  held = stays.held ∙ done.held;
-  state = ap (λ s. state_of s) stays.store ∙ done.state ∙ ap (λ (l : List Request). (settle (state_of (store_of old)) (held_of old ++ drop (length (got_of old)) l)).state) (sym ((λ i. (stays.taker i).got)));
-  up = ap (λ s. is_down s) stays.store ∙ done.up;
-}
 
 pub fresh_still : {D R : Type 0} {V : _} → (old new : Committer D R V) → IsFresh old → StaysPut old new → IsFresh new
 fresh_still old new fresh stays = record { up = ap (λ s. is_down s) stays.store ∙ fresh.up; held = stays.held ∙ fresh.held; got = (λ i. (stays.taker i).got) ∙ fresh.got }

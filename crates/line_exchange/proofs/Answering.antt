@@ -1,16 +1,18 @@
 -- Answers to lines.
-use Rattle.std.proofs.Common.{◌≡◌, sym, subst, ◌∙◌}
+use Rattle.std.proofs.Common.{◌≡◌, sym, subst}
 use Rattle.std.specs.Prelude.{ℕ}
+use Rattle.std.specs.Global.{Box}
 use mathlib.Core.Logic.{∥∥₁_map}
 use Rattle.generations.specs.Beginnings.{Beginning}
 use Rattle.packet_ways.specs.Standing.{Counts, IsNewest}
 use Rattle.live_lines.specs.declared.asked.Asked.{Asked}
 use Rattle.live_lines.specs.declared.asked.Asked.TheVariants as asks
+use Rattle.live_lines.specs.declared.metrics.Metrics as figures
 use Rattle.live_lines.specs.declared.answer.Answer.{Answer}
 use Rattle.live_lines.specs.declared.answer.Answer.TheVariants.{Metrics}
 use Rattle.live_lines.specs.Answers.{FitsAsked, generation_gone}
 use Rattle.line_exchange.specs.Inputs.{Input}
-use Rattle.line_exchange.specs.Measured.{IsFilled}
+use Rattle.line_exchange.specs.Measured.{IsFilled, IsSame}
 use Rattle.line_exchange.specs.OneList.{AnswersBy, IsOffAt, IsSaidAt, IsSaidBy}
 use Rattle.line_exchange.specs.Streams.{IsAskedAt}
 
@@ -34,24 +36,27 @@ off_known known seen input editors place asked answer same by is = answers_off k
 
 -- ---- filled answers
 
--- what is filled in changes nothing that a list says
-filled_said : (known : Beginning) (asked : Asked) (old new : Answer) → IsFilled old new → FitsAsked asked old → IsSaidBy known asked old → FitsAsked asked new × IsSaidBy known asked new
-filled_said known asks.Metrics (Metrics m) (Metrics n) is fits said = (
+-- what holds of an answer as it is, and of figures that are filled in, holds of each that is filled in
+filled_each : (P : Answer → Answer → Type 0) (old new : Answer) → IsFilled old new → ((m n : Box figures.Metrics) → IsSame m.value n.value → P (Metrics m) (Metrics n)) → P old old → P old new
+filled_each P (Metrics m) (Metrics n) is told same = told m n is
+filled_each P old _ is told same = subst (P old) (sym is) same
+
+-- figures that are filled in change nothing that a list says
+figures_said : (known : Beginning) (asked : Asked) (m n : Box figures.Metrics) → IsSame m.value n.value → FitsAsked asked (Metrics m) → IsSaidBy known asked (Metrics m) → FitsAsked asked (Metrics n) × IsSaidBy known asked (Metrics n)
+figures_said known asks.Metrics m n is fits said = (
   tt,
   λ all lawful are_named on.
       (let was = said all lawful are_named on in
       (was.0, was.1, subst (λ (k : ℕ). Counts was.0 k) (sym is.count) was.2, subst (λ (k : ℕ). IsNewest was.0 k) (sym is.generation) was.3)),
 )
-filled_said known _ (Metrics m) (Metrics n) is fits said = absurd fits
-filled_said known asked _ _ is fits said = (subst (λ (a : Answer). FitsAsked asked a) (sym is) fits, subst (λ (a : Answer). IsSaidBy known asked a) (sym is) said)
+figures_said known _ m n is fits said = absurd fits
 
 pub filled_at : (known : Beginning) (input : Input) (editors place : ℕ) (old new : Answer) → IsFilled old new → ∥ IsSaidAt known input editors place old ∥₁ → ∥ IsSaidAt known input editors place new ∥₁
 filled_at known input editors place old new is said =
-    ∥∥₁_map said (λ x. (let both = filled_said known x.asked old new is x.fits x.said in record { asked = x.asked; by = x.by; fits = both.0; said = both.1 }))
-
-gone_before : (old new : Answer) → IsFilled old new → new ≡ generation_gone → old ≡ generation_gone
-gone_before (Metrics m) (Metrics n) is gone = absurd (cc)
-gone_before _ _ is gone = sym is ∙ gone
+    ∥∥₁_map said (λ x.
+    let both = filled_each (λ (a b : Answer). FitsAsked x.asked a → IsSaidBy known x.asked a → FitsAsked x.asked b × IsSaidBy known x.asked b) old new is (λ m n same. figures_said known x.asked m n same) (λ fits told. (fits, told)) x.fits x.said in
+    record { asked = x.asked; by = x.by; fits = both.0; said = both.1 })
 
 pub filled_off : (known : Beginning) (input : Input) (editors place : ℕ) (old new : Answer) → IsFilled old new → (old ≡ generation_gone → ∥ IsOffAt known input editors place ∥₁) → new ≡ generation_gone → ∥ IsOffAt known input editors place ∥₁
-filled_off known input editors place old new is off gone = off (gone_before old new is gone)
+filled_off known input editors place old new is off gone =
+    off (filled_each (λ (a b : Answer). b ≡ generation_gone → a ≡ generation_gone) old new is (λ m n same none. absurd (cc)) (λ none. none) gone)

@@ -1,14 +1,13 @@
 -- Lines of verdicts, and what was noted of them.
-use Rattle.std.proofs.Common.{◌≡◌, ⊎_elim, ◌<◌, ◌+◌, ◌++◌, ◌∷◌, [], ℕ, zero, suc, List, Some, length, refl, sym, ap, subst, ◌∙◌, arith, append-nil, append_assoc, length-append}
-use Rattle.std.specs.Prelude.{set, slice_get}
+use Rattle.std.proofs.Common.{◌≡◌, ⊎_elim, ◌<◌, ◌+◌, ◌++◌, ◌∷◌, [], ℕ, suc, List, Some, length, refl, sym, ap, subst, ◌∙◌, arith, append-nil, append_assoc, length-append}
+use Rattle.std.specs.Prelude.{get_or, replicate, set, slice_get}
 use Rattle.std.proofs.lemmas.List.{get_or-replicate, get_or-set_other, get_or-set_same, get_or_past, length-replicate}
-use Rattle.std.proofs.lemmas.Bool.{ltb-false, ltb-true}
+use Rattle.std.proofs.lemmas.Bool.{cases_lt}
 use Rattle.std.proofs.lemmas.Bool.Decides.{eqb_tells}
-use Rattle.std.specs.Prelude.{nat_lt, Bool, true, false}
 use mathlib.Core.List.{IsPrefix}
 use Rattle.requests.specs.Tickets.{last_of, sessions}
 use Rattle.generations.specs.declared.posting.Mark.{Mark}
-use Rattle.generations.proofs.Prefixes.{prefix_trans}
+use Rattle.generations.proofs.Prefixes.{prefix_get, prefix_trans}
 use Rattle.put_lines.specs.declared.put_line.PutLine.{PutLine}
 use Rattle.put_lines.specs.Lines.{Listed, lines_of_session}
 use Rattle.put_lines.proofs.Appending.{lines_on, other_same, own_more}
@@ -45,12 +44,15 @@ prefix_more (x ∷ xs) (z ∷ ys) y p at = (let rest = prefix_more xs ys y (p.0,
 
 -- ---- at first
 
+-- as many zeros have 0 at each place
+pub none_at : (many place : ℕ) → ◌≡◌ {A = ℕ} (get_or (replicate many 0) place 0) 0
+none_at many place =
+    let zeros : List ℕ = replicate many 0 in
+    let long : length zeros ≡ many = length-replicate {A = ℕ} many 0 in
+    ⊎_elim (λ within. get_or-replicate {A = ℕ} many place 0 0 within) (λ past. get_or_past zeros place 0 (omega (arith, past, long))) (cases_lt place many)
+
 pub none_each : (session : ℕ) → last_of no_puts session ≡ 0
-none_each session = by (nat_lt session sessions) refl
-  where
-    by : (test : Bool) → nat_lt session sessions ≡ test → last_of no_puts session ≡ 0
-    by true test = get_or-replicate {A = ℕ} sessions session 0 0 (ltb-true session sessions test)
-    by false test = get_or_past no_puts session 0 (let past = ltb-false session sessions test in let long = length-replicate {A = ℕ} sessions 0 in omega (arith, past, long))
+none_each session = none_at sessions session
 
 pub none_noted : (puts : List ℕ) (lines : List PutLine) → puts ≡ no_puts → AreNotedFirst puts lines []
 none_noted puts lines none = record {
@@ -135,7 +137,7 @@ notes_one place answer mark line old new before after noted number verdict book 
   on = on;
   next = (
     within,
-    in_longer (lines_of_session mark.session noted.lines) (lines_of_session mark.session after.lines) (last_of old mark.session) (put_by mark place) (lines_on mark.session noted.lines after.lines covers)
+    prefix_get (lines_of_session mark.session noted.lines) (lines_of_session mark.session after.lines) (last_of old mark.session) (put_by mark place) (lines_on mark.session noted.lines after.lines covers)
         (subst (λ (n : ℕ). slice_get (lines_of_session mark.session noted.lines) n ≡ Some (put_by mark place)) same at),
     subst (λ (n : ℕ). new ≡ set old mark.session (n + 1)) same is,
   );
@@ -146,12 +148,6 @@ notes_one place answer mark line old new before after noted number verdict book 
 
     at : slice_get (lines_of_session mark.session noted.lines) number ≡ Some (put_by mark place)
     at = subst (λ (l : PutLine). slice_get (lines_of_session l.session noted.lines) number ≡ Some l) own there
-
-    in_longer : (xs ys : List PutLine) (k : ℕ) (x : PutLine) → IsPrefix xs ys → slice_get xs k ≡ Some x → slice_get ys k ≡ Some x
-    in_longer [] ys k x p h = absurd (cc)
-    in_longer (y ∷ xs) [] k x p h = absurd (cc (p.1))
-    in_longer (y ∷ xs) (z ∷ ys) zero x p h = cc (p.1, h)
-    in_longer (y ∷ xs) (z ∷ ys) (suc k) x p h = in_longer xs ys k x (p.0, cc (p.1)) h
 
 -- another answer notes nothing
 pub notes_none : (place : ℕ) (answer : Answer) (old new : List ℕ) (before after : Listed) → ((mark : Mark) → answer ≡ Settled mark → ⊥) → new ≡ old → after ≡ before → NotesMore place answer old new before after

@@ -1,23 +1,9 @@
 -- Answers that are printed one after the other.
-use Rattle.std.proofs.Common.{◌≡◌, ◌⊎◌, inl, inr, ⊎_elim, ◌<◌, ◌++◌, ◌∷◌, [], ℕ, zero, suc, List, Option, Some, None, length, refl, sym, ap, ◌∙◌, arith, append-nil, append_assoc}
-use Rattle.std.specs.Prelude.{slice_get}
+use Rattle.std.proofs.Common.{◌≡◌, ◌++◌, [], ℕ, List, Option, Some, None, refl, sym, ap, ◌∙◌, append-nil, append_assoc}
 use Rattle.std.specs.Io.KnownBytes.{Appends, Keeps}
 use Rattle.line_exchange.specs.Begun.{Begins}
 use Rattle.line_exchange.specs.Inputs.{Input}
 use Rattle.line_exchange.specs.Prints.{HasPrinted}
-
--- an element of a list with one more at its end
-pub get_snoc : {X : Type 0} (xs : List X) (y : X) (k : ℕ) (x : X) → slice_get (xs ++ y ∷ []) k ≡ Some x → (slice_get xs k ≡ Some x) ⊎ ((k ≡ length xs) × (y ≡ x))
-get_snoc [] y zero x is = inr (refl, cc)
-get_snoc [] y (suc k) x is = absurd (cc)
-get_snoc (z ∷ xs) y zero x is = inl is
-get_snoc (z ∷ xs) y (suc k) x is = ⊎_elim (λ there. inl there) (λ last. inr (ap suc last.0, last.1)) (get_snoc xs y k x is)
-
--- an element stands within its list
-pub get_within : {X : Type 0} (xs : List X) (k : ℕ) (x : X) → slice_get xs k ≡ Some x → k < length xs
-get_within [] k x is = absurd (cc)
-get_within (y ∷ xs) zero x is = omega arith
-get_within (y ∷ xs) (suc k) x is = (let rest = get_within xs k x is in omega (arith, rest))
 
 pub appends_none : (old : Option (List ℕ)) → Appends old old []
 appends_none None = tt

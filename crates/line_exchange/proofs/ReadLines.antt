@@ -20,10 +20,6 @@ none_left : (left : Option (List ℕ)) → AreReadOf (Bytes left) 0 left
 none_left None = tt
 none_left (Some xs) = none_read xs
 
--- at first no line is read
-pub none_read_of : (input : Input) (left : Option (List ℕ)) → input ≡ Bytes left → AreReadOf input 0 left
-none_read_of input left is = subst (λ (i : Input). AreReadOf i 0 left) (sym is) (none_left left)
-
 -- what a line is read to ask for, the line at its place asks for
 pub asks_at : (input : Input) (editors k : ℕ) (old : Option (List ℕ)) (next : NextLine) (line : List ℕ) (asked : Asked) → AreReadOf input k old → IfSome old (λ ys. IsNext ys next line)
     → ((xs : List ℕ) (n : ℕ) → IsLineAt xs n next line → IsAskedBy xs editors n asked) → ∥ IsAskedAt input editors k asked ∥₁

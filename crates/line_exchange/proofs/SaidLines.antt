@@ -1,20 +1,22 @@
 -- Answers by what is known of the list of postings, one after the other.
-use Rattle.std.proofs.Common.{◌≡◌, ⊎_elim, ◌<◌, ◌+◌, ◌++◌, ◌∷◌, [], ℕ, List, Option, Some, length, refl, sym, ap, subst, ◌∙◌, arith, append-nil, get_or}
+use Rattle.std.proofs.Common.{◌≡◌, ◌⊎◌, inl, inr, ⊎_elim, ◌<◌, ◌+◌, ◌++◌, ◌∷◌, [], ℕ, List, Option, Some, length, refl, sym, ap, subst, ◌∙◌, arith, append-nil, get_or}
 use Rattle.std.specs.Prelude.{◌==◌, Bool, cond, set, slice_get, take}
 use Rattle.requests.specs.Tickets.{Rises, last_of, sessions, tickets_after}
 use Rattle.requests.proofs.TicketLemmas.{after_append, rises_both}
 use Rattle.generations.specs.declared.posting.Mark.{Mark}
 use Rattle.std.specs.Io.KnownBytes.{Appends, Keeps}
-use Rattle.std.proofs.lemmas.Bool.{cases_eq, cases_lt, eq-eqb, ne_eqb}
-use Rattle.std.proofs.lemmas.List.{get_or-replicate, get_or-set_other, get_or_past, length-append, length-replicate, take-append-le}
+use Rattle.std.proofs.lemmas.Bool.{cases_eq, eq-eqb, ne_eqb}
+use Rattle.std.proofs.lemmas.List.{get_or-set_other, length-append, take-append-le}
+use Rattle.std.proofs.lemmas.Option.{slice_get_within}
 use Rattle.std.proofs.lemmas.List.Sums.{sum_by-append}
-use Rattle.std.proofs.Math.Seq.{take-length}
+use Rattle.std.proofs.Math.Seq.{take-append_seam}
 use Rattle.std.proofs.lemmas.Grind.{flat_map-append, get_or-set_at}
 use mathlib.Core.Logic.{∥∥₁_map}
 use Rattle.command_output.specs.Lines.{line}
 use Rattle.line_exchange.specs.Begun.{Begins, PrintsUnless}
 use Rattle.line_exchange.specs.declared.answer_writer.AnswerWriter.{Ghosts}
 use Rattle.generations.specs.Beginnings.{Beginning, GoesOn, Opening}
+use Rattle.generations.proofs.Lawfulness.{get_last}
 use Rattle.generations.proofs.Sharing.{goes_trans}
 use Rattle.live_lines.specs.declared.asked.Asked.{Asked}
 use Rattle.live_lines.specs.declared.answer.Answer.{Answer}
@@ -32,8 +34,8 @@ use Rattle.line_exchange.specs.Tallies.{Adds, AreAwaited, AreBackedUp, AreDroppe
 use Rattle.line_exchange.specs.Waits.{AreAwaitedTo, AreNoOlder, GoesBy, IsNoOlder}
 use Rattle.line_exchange.specs.declared.tally.Tally.{Tally}
 use Rattle.line_exchange.specs.PutLines.{no_puts}
-use Rattle.line_exchange.proofs.NotedLines.{more_noted, none_noted}
-use Rattle.line_exchange.proofs.PrintedLines.{appends_more, appends_none, appends_still, begins_all, begins_more, get_snoc, get_within}
+use Rattle.line_exchange.proofs.NotedLines.{more_noted, none_at, none_noted}
+use Rattle.line_exchange.proofs.PrintedLines.{appends_more, appends_none, appends_still, begins_all, begins_more}
 
 -- ---- knowing more
 
@@ -53,50 +55,55 @@ more_said known seen later input editors count answers answer said many on cover
     ⊎_elim (λ there. ∥∥₁_map (said k other there) (λ x. said_at known later input editors k other on x))
     (λ last. subst (λ (a : Answer). ∥ IsSaidAt later input editors k a ∥₁) last.1
     (subst (λ (n : ℕ). ∥ IsSaidAt later input editors n answer ∥₁) (sym (last.0 ∙ many)) (∥∥₁_map is (λ x. said_at seen later input editors count answer covers x))))
-    (get_snoc answers answer k other at)
+    (get_last answers answer other k at)
 
 -- ---- how an answer goes with those before
+
+-- of two answers in order the second one is the last, or neither is
+both_last : (answers : List Answer) (answer first second : Answer) (before k : ℕ) → before < k → slice_get (answers ++ answer ∷ []) before ≡ Some first → slice_get (answers ++ answer ∷ []) k ≡ Some second
+    → ((slice_get answers before ≡ Some first) × (slice_get answers k ≡ Some second)) ⊎ ((slice_get answers before ≡ Some first) × (answer ≡ second))
+both_last answers answer first second before k less one two =
+    let long = length-append answers (answer ∷ []) in
+    let most = slice_get_within (answers ++ answer ∷ []) k second two in
+    let there : slice_get answers before ≡ Some first = ⊎_elim (λ is. is) (λ last. absurd (let end = last.0 in omega (arith, long, most, end, less))) (get_last answers answer first before one) in
+    ⊎_elim (λ is. inl (there, is)) (λ last. inr (there, last.1)) (get_last answers answer second k two)
+
+-- those before an answer are the same with one more
+same_before : (answers : List Answer) (answer other : Answer) (k : ℕ) → slice_get answers k ≡ Some other → take k (answers ++ answer ∷ []) ≡ take k answers
+same_before answers answer other k there = take-append-le k answers (answer ∷ []) (let within = slice_get_within answers k other there in omega (arith, within))
+
+-- and those before the last one are all others
+all_before : (answers : List Answer) (answer : Answer) (k : ℕ) → k ≡ length answers → take k (answers ++ answer ∷ []) ≡ answers
+all_before answers answer k last = ap (λ (n : ℕ). take n (answers ++ answer ∷ [])) last ∙ take-append_seam answers (answer ∷ [])
 
 -- an answer more, and how far they reach then
 more_reached : (old new : ℕ) (answers : List Answer) (answer : Answer) → AreReached old answers → IsReached old answer new → AreReached new (answers ++ answer ∷ [])
 more_reached old new answers answer are is k count other at tells =
-    ⊎_elim (λ there. (let least = are k count other there tells in let kept = is.kept in omega (arith, least, kept))) (λ last. is.told count (subst (λ (a : Answer). TellsCount a count) (sym last.1) tells)) (get_snoc answers answer k other at)
+    ⊎_elim (λ there. (let least = are k count other there tells in let kept = is.kept in omega (arith, least, kept))) (λ last. is.told count (subst (λ (a : Answer). TellsCount a count) (sym last.1) tells)) (get_last answers answer other k at)
 
 -- what was waited for has all that was told before
 more_awaited : (old new : ℕ) (answers : List Answer) (answer : Answer) → AreAwaited answers → AreReached old answers → IsReached old answer new → AreAwaited (answers ++ answer ∷ [])
 more_awaited old new answers answer are reached is before k count generation earlier less at tells waits =
-    ⊎_elim (λ there. ⊎_elim (λ first. are before k count generation earlier less first tells there) (λ last. absurd (no_later there last.0)) (get_snoc answers answer before earlier at))
-    (λ last. ⊎_elim (λ first. (let least = reached before count earlier first tells in let most = is.awaited generation last.1 in omega (arith, least, most))) (λ same. absurd (let one = same.0 in let two = last.0 in omega (arith, one, two, less)))
-    (get_snoc answers answer before earlier at)) (get_snoc answers answer k (Waited generation) waits)
-  where
-    no_later : slice_get answers k ≡ Some (Waited generation) → before ≡ length answers → ⊥
-    no_later there last = (let within = get_within answers k (Waited generation) there in omega (arith, within, less, last))
+    ⊎_elim (λ both. are before k count generation earlier less both.0 tells both.1) (λ last. (let least = reached before count earlier last.0 tells in let most = is.awaited generation last.1 in omega (arith, least, most)))
+    (both_last answers answer earlier (Waited generation) before k less at waits)
 
 -- and so has a backup
 more_backed : (old new : ℕ) (answers : List Answer) (answer : Answer) → AreBackedUp answers → AreReached old answers → IsReached old answer new → AreBackedUp (answers ++ answer ∷ [])
 more_backed old new answers answer are reached is before k count held earlier less at tells backs =
-    ⊎_elim (λ there. ⊎_elim (λ first. are before k count held earlier less first tells there) (λ last. absurd (no_later there last.0)) (get_snoc answers answer before earlier at))
-    (λ last. ⊎_elim (λ first. (let least = reached before count earlier first tells in let most = is.backed held last.1 in omega (arith, least, most))) (λ same. absurd (let one = same.0 in let two = last.0 in omega (arith, one, two, less)))
-    (get_snoc answers answer before earlier at)) (get_snoc answers answer k (BackedUp held) backs)
-  where
-    no_later : slice_get answers k ≡ Some (BackedUp held) → before ≡ length answers → ⊥
-    no_later there last = (let within = get_within answers k (BackedUp held) there in omega (arith, within, less, last))
+    ⊎_elim (λ both. are before k count held earlier less both.0 tells both.1) (λ last. (let least = reached before count earlier last.0 tells in let most = is.backed held last.1 in omega (arith, least, most)))
+    (both_last answers answer earlier (BackedUp held) before k less at backs)
 
 -- none was waited for that is later
 more_waited : (old new : ℕ) (answers : List Answer) (answer : Answer) → AreAwaitedTo old answers → IsNoOlder old answer new → AreAwaitedTo new (answers ++ answer ∷ [])
 more_waited old new answers answer are is k waited at =
-    ⊎_elim (λ there. (let least = are k waited there in let kept = is.kept in omega (arith, least, kept))) (λ last. is.waits waited last.1) (get_snoc answers answer k (Waited waited) at)
+    ⊎_elim (λ there. (let least = are k waited there in let kept = is.kept in omega (arith, least, kept))) (λ last. is.waits waited last.1) (get_last answers answer (Waited waited) k at)
 
 -- and none goes by an older one
 more_no_older : (old new : ℕ) (answers : List Answer) (answer : Answer) → AreNoOlder answers → AreAwaitedTo old answers → IsNoOlder old answer new → AreNoOlder (answers ++ answer ∷ [])
 more_no_older old new answers answer are to is before k waited number other less waits at by =
-    ⊎_elim (λ there. ⊎_elim (λ first. are before k waited number other less first there by) (λ last. absurd (no_later there last.0)) (get_snoc answers answer before (Waited waited) waits))
-    (λ last. ⊎_elim (λ first. (let least = to before waited first in let most = is.by number (subst (λ (a : Answer). GoesBy a number) (sym last.1) by) in omega (arith, least, most)))
-    (λ same. absurd (let one = same.0 in let two = last.0 in omega (arith, one, two, less)))
-    (get_snoc answers answer before (Waited waited) waits)) (get_snoc answers answer k other at)
-  where
-    no_later : slice_get answers k ≡ Some other → before ≡ length answers → ⊥
-    no_later there last = (let within = get_within answers k other there in omega (arith, within, less, last))
+    ⊎_elim (λ both. are before k waited number other less both.0 both.1 by)
+    (λ last. (let least = to before waited last.0 in let most = is.by number (subst (λ (a : Answer). GoesBy a number) (sym last.1) by) in omega (arith, least, most)))
+    (both_last answers answer (Waited waited) other before k less waits at)
 
 -- the tickets of verdicts rise
 more_in_turn : (old new : List ℕ) (answers : List Answer) (answer : Answer) → AreInTurn old answers → IsInTurn old answer new → AreInTurn new (answers ++ answer ∷ [])
@@ -122,26 +129,20 @@ more_dropped : (starts accepted told : List ℕ) (answers : List Answer) (answer
     → IsDropped accepted told answer → AreDropped starts (answers ++ answer ∷ [])
 more_dropped starts accepted told answers answer are was last is k other at =
     ⊎_elim (λ there. subst (λ (before : List Answer). IsDropped (tickets_after starts (accepted_in before)) (tickets_after no_tickets (told_in before)) other)
-    (sym (take-append-le k answers (answer ∷ []) (let within = get_within answers k other there in omega (arith, within)))) (are k other there))
-    (λ end. subst (λ (before : List Answer). IsDropped (tickets_after starts (accepted_in before)) (tickets_after no_tickets (told_in before)) other) (sym (all_before k end.0))
+    (sym (same_before answers answer other k there)) (are k other there))
+    (λ end. subst (λ (before : List Answer). IsDropped (tickets_after starts (accepted_in before)) (tickets_after no_tickets (told_in before)) other) (sym (all_before answers answer k end.0))
     (subst (λ (a : Answer). IsDropped (tickets_after starts (accepted_in answers)) (tickets_after no_tickets (told_in answers)) a) end.1
     (subst (λ (ts : List ℕ). IsDropped (tickets_after starts (accepted_in answers)) ts answer) last (subst (λ (ts : List ℕ). IsDropped ts told answer) was is))))
-    (get_snoc answers answer k other at)
-  where
-    all_before : (n : ℕ) → n ≡ length answers → take n (answers ++ answer ∷ []) ≡ answers
-    all_before n same = ap (λ (m : ℕ). take m (answers ++ answer ∷ [])) same ∙ (take-append-le (length answers) answers (answer ∷ []) (omega arith) ∙ take-length answers)
+    (get_last answers answer other k at)
 
 -- ---- metrics
 
 -- they tell of the answers before them
 more_measured : (answers : List Answer) (answer : Answer) → AreMeasured answers → IsMeasuredBy answers answer → AreMeasured (answers ++ answer ∷ [])
 more_measured answers answer are is k other at =
-    ⊎_elim (λ there. subst (λ (before : List Answer). IsMeasuredBy before other) (sym (take-append-le k answers (answer ∷ []) (let within = get_within answers k other there in omega (arith, within)))) (are k other there))
-    (λ end. subst (λ (before : List Answer). IsMeasuredBy before other) (sym (all_before k end.0)) (subst (λ (a : Answer). IsMeasuredBy answers a) end.1 is))
-    (get_snoc answers answer k other at)
-  where
-    all_before : (n : ℕ) → n ≡ length answers → take n (answers ++ answer ∷ []) ≡ answers
-    all_before n same = ap (λ (m : ℕ). take m (answers ++ answer ∷ [])) same ∙ (take-append-le (length answers) answers (answer ∷ []) (omega arith) ∙ take-length answers)
+    ⊎_elim (λ there. subst (λ (before : List Answer). IsMeasuredBy before other) (sym (same_before answers answer other k there)) (are k other there))
+    (λ end. subst (λ (before : List Answer). IsMeasuredBy before other) (sym (all_before answers answer k end.0)) (subst (λ (a : Answer). IsMeasuredBy answers a) end.1 is))
+    (get_last answers answer other k at)
 
 -- .. by what is kept of those
 measured_by : (tally : Tally) (answers : List Answer) (answer : Answer) → length answers ≡ tally.count → AreCounted tally.counted answers → Tells tally.count tally.counted answer → IsMeasuredBy answers answer
@@ -150,8 +151,7 @@ measured_by tally answers _ many counted tells = tt
 
 -- before any answer there is none of a kind
 none_counted_yet : AreCounted none_counted []
-none_counted_yet place = ⊎_elim (λ within. get_or-replicate 19 place 0 0 within)
-    (λ past. get_or_past none_counted place 0 (let long : length none_counted ≡ 19 = length-replicate {A = ℕ} 19 0 in omega (arith, long))) (cases_lt place 19)
+none_counted_yet place = none_at 19 place
 
 -- the number at a place, with one more at the answer's own
 counted_at : (old : List ℕ) (own place : ℕ) → own < length old → get_or (set old own (get_or old own 0 + 1)) place 0 ≡ get_or old place 0 + cond (own == place) 1 0
@@ -189,19 +189,16 @@ more_gone known seen later input editors answers answer are said on covers knows
     ⊎_elim (λ there. ∥∥₁_map (are k there) (λ x. record {
       seen = x.seen;
       on = goes_trans x.seen known later x.on on;
-      earlier = subst (λ (before : List Answer). AreSaid x.seen input editors before) (sym (take-append-le k answers (answer ∷ []) (let within = get_within answers k generation_gone there in omega (arith, within)))) x.earlier;
+      earlier = subst (λ (before : List Answer). AreSaid x.seen input editors before) (sym (same_before answers answer generation_gone k there)) x.earlier;
       gone = x.gone;
     }))
     (λ last. ∥∥₁_map (off last.1) (λ x. record {
       seen = seen;
       on = covers;
-      earlier = subst (λ (before : List Answer). AreSaid seen input editors before) (sym (all_before k last.0)) (all_said known seen input editors answers (knows last.1) said);
+      earlier = subst (λ (before : List Answer). AreSaid seen input editors before) (sym (all_before answers answer k last.0)) (all_said known seen input editors answers (knows last.1) said);
       gone = subst (λ (n : ℕ). IsOffAt seen input editors n) (sym last.0) x;
     }))
-    (get_snoc answers answer k generation_gone at)
-  where
-    all_before : (n : ℕ) → n ≡ length answers → take n (answers ++ answer ∷ []) ≡ answers
-    all_before n is = ap (λ (m : ℕ). take m (answers ++ answer ∷ [])) is ∙ (take-append-le (length answers) answers (answer ∷ []) (omega arith) ∙ take-length answers)
+    (get_last answers answer generation_gone k at)
 
 -- ---- what is printed
 
@@ -239,17 +236,17 @@ still_printed_by text tally input editors old mid new has kept =
     printed_as text tally input editors (Appends old mid) (Appends old new) has (λ lines was. appends_still old mid new lines was kept)
 
 -- an answer more: of its line behind those of the others something holds
-one_more_by : (text : Answer → List ℕ) (tally more : Tally) (seen : Beginning) (input : Input) (editors : ℕ) (P Q : List ℕ → Type 0) (answer : Answer) → HasPrintedBy text tally input editors P
-    → Adds tally seen answer more → ∥ IsSaidAt seen input editors tally.count answer ∥₁ → (answer ≡ generation_gone → ∥ IsOffAt seen input editors tally.count ∥₁) → ((lines : List ℕ) → P lines → Q (lines ++ line (text answer)))
+one_more_by : (text : Answer → List ℕ) (tally more : Tally) (seen : Beginning) (input : Input) (editors place : ℕ) (P Q : List ℕ → Type 0) (answer : Answer) → HasPrintedBy text tally input editors P
+    → Adds tally seen answer more → place ≡ tally.count → ∥ IsSaidAt seen input editors place answer ∥₁ → (answer ≡ generation_gone → ∥ IsOffAt seen input editors place ∥₁) → ((lines : List ℕ) → P lines → Q (lines ++ line (text answer)))
     → HasPrintedBy text more input editors Q
-one_more_by text tally more seen input editors P Q answer has adds is off so =
+one_more_by text tally more seen input editors place P Q answer has adds next is off so =
     let texts : lines_of text (has.answers ++ answer ∷ []) ≡ lines_of text has.answers ++ line (text answer) =
     flat_map-append (λ (a : Answer). line (text a)) has.answers (answer ∷ []) ∙ ap (λ (l : List ℕ). lines_of text has.answers ++ l) (append-nil (line (text answer))) in
     record {
       answers = has.answers ++ answer ∷ [];
       many = length-append has.answers (answer ∷ []) ∙ (ap (λ (n : ℕ). n + 1) has.many ∙ sym adds.count);
-      said = more_said tally.known seen more.known input editors tally.count has.answers answer has.said has.many adds.on adds.covers is;
-      gone = more_gone tally.known seen more.known input editors has.answers answer has.gone has.said adds.on adds.covers adds.gone (λ gone. subst (λ (n : ℕ). ∥ IsOffAt seen input editors n ∥₁) (sym has.many) (off gone));
+      said = more_said tally.known seen more.known input editors place has.answers answer has.said (has.many ∙ sym next) adds.on adds.covers is;
+      gone = more_gone tally.known seen more.known input editors has.answers answer has.gone has.said adds.on adds.covers adds.gone (λ gone. subst (λ (n : ℕ). ∥ IsOffAt seen input editors n ∥₁) (next ∙ sym has.many) (off gone));
       awaited = more_awaited tally.reached more.reached has.answers answer has.awaited has.reached adds.reached;
       backed = more_backed tally.reached more.reached has.answers answer has.backed has.reached adds.reached;
       reached = more_reached tally.reached more.reached has.answers answer has.reached adds.reached;
@@ -267,11 +264,11 @@ one_more_by text tally more seen input editors P Q answer has adds is off so =
     }
 
 -- the answer to the next line is printed
-pub one_printed_by : (text : Answer → List ℕ) (tally more : Tally) (seen : Beginning) (input : Input) (editors : ℕ) (old mid new : Option (List ℕ)) (answer : Answer) → HasPrintedBy text tally input editors (Appends old mid)
-    → Adds tally seen answer more → ∥ IsSaidAt seen input editors tally.count answer ∥₁ → (answer ≡ generation_gone → ∥ IsOffAt seen input editors tally.count ∥₁) → Appends mid new (line (text answer))
+pub one_printed_by : (text : Answer → List ℕ) (tally more : Tally) (seen : Beginning) (input : Input) (editors place : ℕ) (old mid new : Option (List ℕ)) (answer : Answer) → HasPrintedBy text tally input editors (Appends old mid)
+    → Adds tally seen answer more → place ≡ tally.count → ∥ IsSaidAt seen input editors place answer ∥₁ → (answer ≡ generation_gone → ∥ IsOffAt seen input editors place ∥₁) → Appends mid new (line (text answer))
     → HasPrintedBy text more input editors (Appends old new)
-one_printed_by text tally more seen input editors old mid new answer has adds is off printed =
-    one_more_by text tally more seen input editors (Appends old mid) (Appends old new) answer has adds is off (λ lines was. appends_more old mid new lines (line (text answer)) was printed)
+one_printed_by text tally more seen input editors place old mid new answer has adds next is off printed =
+    one_more_by text tally more seen input editors place (Appends old mid) (Appends old new) answer has adds next is off (λ lines was. appends_more old mid new lines (line (text answer)) was printed)
 
 -- the printing ended where all of them are printed
 pub ends_whole : {W : Type 0} (outlet : Ghosts W) (tally : Tally) (end : Option LineFault) (input : Input) (editors : ℕ) (old mid new : W) → HasPrintedBy answer_text tally input editors (Appends (outlet.contents old) (outlet.contents mid))
@@ -283,14 +280,14 @@ ends_whole outlet tally end input editors old mid new has kept failed = record {
 }
 
 -- .. or where a write of the next one's line failed
-pub ends_broken : {W : Type 0} (outlet : Ghosts W) (tally more : Tally) (seen : Beginning) (input : Input) (editors : ℕ) (old mid new : W) (answer : Answer)
+pub ends_broken : {W : Type 0} (outlet : Ghosts W) (tally more : Tally) (seen : Beginning) (input : Input) (editors place : ℕ) (old mid new : W) (answer : Answer)
     → HasPrintedBy answer_text tally input editors (Appends (outlet.contents old) (outlet.contents mid))
-    → Adds tally seen answer more → ∥ IsSaidAt seen input editors tally.count answer ∥₁ → (answer ≡ generation_gone → ∥ IsOffAt seen input editors tally.count ∥₁) → Begins (outlet.contents mid) (outlet.contents new) (line (answer_text answer))
+    → Adds tally seen answer more → place ≡ tally.count → ∥ IsSaidAt seen input editors place answer ∥₁ → (answer ≡ generation_gone → ∥ IsOffAt seen input editors place ∥₁) → Begins (outlet.contents mid) (outlet.contents new) (line (answer_text answer))
     → outlet.has_failed new → PrintsSo outlet input editors old new (record { tally = more; end = Some Failed })
-ends_broken outlet tally more seen input editors old mid new answer has adds is off begun failed =
+ends_broken outlet tally more seen input editors place old mid new answer has adds next is off begun failed =
     let failing = PrintsUnless (◌≡◌ {A = Option LineFault} (Some Failed) (Some Failed)) (outlet.contents old) (outlet.contents new) in
     record {
-      lines = one_more_by answer_text tally more seen input editors (Appends (outlet.contents old) (outlet.contents mid)) failing answer has adds is off
+      lines = one_more_by answer_text tally more seen input editors place (Appends (outlet.contents old) (outlet.contents mid)) failing answer has adds next is off
           (λ lines was. (begins_more (outlet.contents old) (outlet.contents mid) (outlet.contents new) lines (line (answer_text answer)) was begun, λ other. absurd (other refl)));
       failed = λ same. failed;
     }
@@ -309,7 +306,7 @@ printed_of tally input editors Stands has = record {
 pub none_gathered : (tally : Tally) (input : Input) (editors : ℕ) (text : List ℕ) → tally.count ≡ 0 → tally.tickets ≡ no_tickets → tally.puts ≡ no_puts → tally.counted ≡ none_counted → tally.accepted ≡ tally.known.opening.starts → text ≡ [] → HasText tally input editors text
 none_gathered tally input editors text first untold unput uncounted starts none = subst (λ (t : List ℕ). HasText tally input editors t) (sym none) (none_printed_by script_text tally input editors (Some []) first untold unput uncounted starts)
 
-pub one_gathered : (tally more : Tally) (seen : Beginning) (input : Input) (editors : ℕ) (answer : Answer) (old new : List ℕ) → HasText tally input editors old → Adds tally seen answer more
-    → ∥ IsSaidAt seen input editors tally.count answer ∥₁ → (answer ≡ generation_gone → ∥ IsOffAt seen input editors tally.count ∥₁) → new ≡ old ++ line (script_text answer) → HasText more input editors new
-one_gathered tally more seen input editors answer old new has adds is off printed =
-    one_printed_by script_text tally more seen input editors (Some []) (Some old) (Some new) answer has adds is off printed
+pub one_gathered : (tally more : Tally) (seen : Beginning) (input : Input) (editors place : ℕ) (answer : Answer) (old new : List ℕ) → HasText tally input editors old → Adds tally seen answer more
+    → place ≡ tally.count → ∥ IsSaidAt seen input editors place answer ∥₁ → (answer ≡ generation_gone → ∥ IsOffAt seen input editors place ∥₁) → new ≡ old ++ line (script_text answer) → HasText more input editors new
+one_gathered tally more seen input editors place answer old new has adds next is off printed =
+    one_printed_by script_text tally more seen input editors place (Some []) (Some old) (Some new) answer has adds next is off printed

@@ -85,12 +85,13 @@ fn gather_each<J: Stream, B: BoardName, R: Wait>(
             };
         };
         match push_line(alloc, text, &answered.answer) {
-            Ok(()) => exchange.print_to(tally.count),
+            Ok(()) => {}
             Err(_) => return Printed {
                 tally,
                 end: Some(LineFault::Memory),
             },
         }
+        exchange.print_to(tally.count);
     }
     Printed { tally, end: None }
 }

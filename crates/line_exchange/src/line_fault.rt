@@ -1,7 +1,7 @@
 // Why lines end early.
 
 /// Why the reading of lines, or the printing of their answers, ended before its end.
-#[derive(Clone, Copy, Debug, PartialEq, Eq, Drop)]
+#[derive(Clone, Copy, Drop)]
 pub enum LineFault {
     /// A read of the input failed, or a write of the output.
     Failed,

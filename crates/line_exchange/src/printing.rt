@@ -99,10 +99,7 @@ fn print_each<J: Stream, B: BoardName, O: AnswerWriter, R: Wait>(
             };
         };
         match print_one(alloc, &answered.answer, out) {
-            Ok(()) => {
-                tally = more;
-                exchange.print_to(tally.count);
-            }
+            Ok(()) => tally = more,
             Err(LineFault::Failed) => return Printed {
                 tally: more,
                 end: Some(LineFault::Failed),
@@ -112,6 +109,7 @@ fn print_each<J: Stream, B: BoardName, O: AnswerWriter, R: Wait>(
                 end: Some(fault),
             },
         }
+        exchange.print_to(tally.count);
     }
     Printed { tally, end: None }
 }

@@ -1,9 +1,9 @@
 -- Tickets that are in, and tickets that were submitted before and aren't.
-use Rattle.std.proofs.Common.{◌≡◌, ◌<◌, ◌≤◌, ◌++◌, ◌∷◌, [], ◌∙◌, sym, subst, refl, ℕ, List, Bool, true, false, cond, nat_le, nat_lt, arith}
+use Rattle.std.proofs.Common.{◌≡◌, ◌<◌, ◌≤◌, ◌++◌, ◌∷◌, [], ◌∙◌, sym, subst, refl, ℕ, List, Bool, true, false, cond, nat_le, nat_lt}
 use Rattle.std.specs.Prelude.{Option, Some, None}
 use Rattle.std.specs.List.{Contains}
 use Rattle.std.specs.Option.{unwrap_or}
-use Rattle.std.proofs.lemmas.Bool.Decides.{nat_tests}
+use Rattle.std.proofs.lemmas.Bool.{leb-false, leb-true}
 use Rattle.std.proofs.lemmas.List.Concat.{flat_map-append}
 use Rattle.std.proofs.lemmas.List.Elements.{Contains-append_left}
 use mathlib.Core.Logic.{∥∥₁_map}
@@ -55,24 +55,18 @@ out_by true a o w is = absurd (cc)
 out_by false true o w is = absurd (cc)
 out_by false false o w is = refl
 
-at_most : (a b : ℕ) → nat_le a b ≡ true → a ≤ b
-at_most a b is = grind (arith, nat_tests)
-
-above : (a b : ℕ) → nat_le a b ≡ false → b < a
-above a b is = grind (arith, nat_tests)
-
 -- a ticket that is in already, by the board
 is_in : (known : Beginning) (e : Editing) (ticket : ℕ) → IsIn known e ticket → ticket ≤ last_in known e.session
 is_in known e ticket is =
     let s = board_after known in
-    at_most ticket (last_in known e.session)
+    leb-true ticket (last_in known e.session)
     (in_by (is_open (outcome_on s e.session (last_asked e.put))) (nat_le ticket (last_in known e.session)) (nat_le ticket (unwrap_or (last_asked e.put) e.start)) (nat_lt worn_limit ticket) is)
 
 -- .. and an old one, which isn't
 is_out : (known : Beginning) (e : Editing) (ticket : ℕ) → IsOld known e ticket → last_in known e.session < ticket
 is_out known e ticket is =
     let s = board_after known in
-    above ticket (last_in known e.session)
+    leb-false ticket (last_in known e.session)
     (out_by (is_open (outcome_on s e.session (last_asked e.put))) (nat_le ticket (last_in known e.session)) (nat_le ticket (unwrap_or (last_asked e.put) e.start)) (nat_lt worn_limit ticket) is)
 
 -- ---- what each list says that goes on from what is known

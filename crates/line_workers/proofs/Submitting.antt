@@ -1,12 +1,12 @@
 -- Requests that lines put, and what was noted of the lines.
-use Rattle.std.proofs.Common.{◌≡◌, ◌+◌, ◌++◌, ◌∷◌, [], ℕ, List, Option, Some, length, refl, sym, ap, subst, ◌∙◌, append-nil, append_assoc, length-append}
+use Rattle.std.proofs.Common.{◌≡◌, ◌≢◌, ◌+◌, ◌++◌, ◌∷◌, [], ℕ, List, Option, Some, length, refl, sym, ap, subst, ◌∙◌, length-append}
 use Rattle.std.specs.Prelude.{slice_get}
 use mathlib.Core.Logic.{∥∥₁_map}
 use Rattle.logbook.specs.Pages.{Book}
 use Rattle.graph_edits.specs.declared.edits.Op.{Op}
 use Rattle.requests.specs.declared.request.Request.{Request}
 use Rattle.generations.specs.declared.posting.Mark.{Mark}
-use Rattle.generations.specs.declared.posting.Notice.{Notice}
+use Rattle.generations.proofs.Sharing.{goes_self, goes_trans}
 use Rattle.put_lines.specs.declared.put_line.PutLine.{PutLine}
 use Rattle.put_lines.specs.Lines.{AddsLine, Listed, lines_of_session}
 use Rattle.intake.specs.Editors.{Editing}
@@ -49,10 +49,9 @@ noted_still book input editors old new before after has own put number lines =
     }
 
 -- a line put a request, and was noted
-noted_put : (book : Book) (input : Input) (editors place session : ℕ) (ticket : Option ℕ) (change : List Op) (mark : Mark) (old new : Editing) (before after : Noted) → HasNoted book input editors old before → new.session ≡ old.session
-    → ∥ IsAskedAt input editors place (Edit session ticket change) ∥₁ → FitsAsked (Edit session ticket change) (Settled mark) → HasPutFor (Edit session ticket change) (Settled mark) old new
-    → NotesAnswer old.session place (Settled mark) before after → HasNoted book input editors new after
-noted_put book input editors place session ticket change mark old new before after has own asked fits put notes =
+noted_put : (book : Book) (input : Input) (editors place : ℕ) (line : Asked) (mark : Mark) (old new : Editing) (before after : Noted) → HasNoted book input editors old before → new.session ≡ old.session
+    → ∥ IsAskedAt input editors place line ∥₁ → FitsAsked line (Settled mark) → HasPutFor line (Settled mark) old new → NotesAnswer old.session place (Settled mark) before after → HasNoted book input editors new after
+noted_put book input editors place (Edit session ticket change) mark old new before after has own asked fits put notes =
     let line = put_by mark place in
     let request : Request = record { session = mark.session; ticket = mark.ticket; change = change } in
     let mine : mark.session ≡ new.session = notes.0 ∙ sym own in
@@ -65,15 +64,20 @@ noted_put book input editors place session ticket change mark old new before aft
           (subst (λ (ls : List PutLine). ArePutBy input editors ls (old.put ++ request ∷ [])) (sym all)
           (by_more input editors (lines_of_session old.session before.lines.lines) old.put line request has.put refl (put_at input editors place session mark.session mark.ticket ticket change asked fits.0 fits.1)));
     }
+noted_put book input editors place _ mark old new before after has own asked fits put notes = absurd fits
+
+-- an answer that is no verdict tells that nothing was put
+nothing_put : (line : Asked) (answer : Answer) (old new : Editing) → ((mark : Mark) → answer ≢ Settled mark) → HasPutFor line answer old new → new.put ≡ old.put
+nothing_put (Edit session ticket change) (Settled mark) old new other put = absurd (other mark refl)
+nothing_put (Edit session ticket change) _ old new other put = put
+nothing_put _ answer old new other put = put
 
 -- a line was answered
-pub noted_for : (book : Book) (input : Input) (editors place : ℕ) (asked : Asked) (answer : Answer) (old new : Editing) (before after : Noted) → HasNoted book input editors old before → new.session ≡ old.session
-    → ∥ IsAskedAt input editors place asked ∥₁ → FitsAsked asked answer → HasPutFor asked answer old new → NotesAnswer old.session place answer before after → HasNoted book input editors new after
-noted_for book input editors place (Edit session ticket change) (Settled mark) old new before after has own asked fits put notes =
-    noted_put book input editors place session ticket change mark old new before after has own asked fits put notes
-noted_for book input editors place _ (Settled mark) old new before after has own asked fits put notes = absurd fits
-noted_for book input editors place (Edit session ticket change) _ old new before after has own asked fits put notes = noted_still book input editors old new before after has own put notes.0 notes.1
-noted_for book input editors place _ _ old new before after has own asked fits put notes = noted_still book input editors old new before after has own put notes.0 notes.1
+pub noted_for : (book : Book) (input : Input) (editors place : ℕ) (line : Asked) (answer : Answer) (old new : Editing) (before after : Noted) → HasNoted book input editors old before → new.session ≡ old.session
+    → ∥ IsAskedAt input editors place line ∥₁ → FitsAsked line answer → HasPutFor line answer old new → NotesAnswer old.session place answer before after → HasNoted book input editors new after
+noted_for book input editors place line (Settled mark) old new before after has own asked fits put notes = noted_put book input editors place line mark old new before after has own asked fits put notes
+noted_for book input editors place line answer old new before after has own asked fits put notes =
+    noted_still book input editors old new before after has own (nothing_put line answer old new (λ mark is. cc) put) notes.0 notes.1
 
 -- before any line
 pub none_noted : (book : Book) (input : Input) (editors : ℕ) (editor : Editing) (noted : Noted) → noted.lines.book ≡ book → noted.number ≡ 0 → noted.lines.lines ≡ [] → editor.put ≡ [] → HasNoted book input editors editor noted
@@ -99,15 +103,8 @@ next_there old line new after number adds many same =
 -- ---- one editor
 
 pub same_first : (e : Editing) → IsSameEditor e e
-same_first e = record { queue = refl; session = refl; start = refl; known = (refl, ([], append-nil e.known.log)) }
+same_first e = record { queue = refl; session = refl; start = refl; known = goes_self e.known }
 
 pub same_twice : (old mid new : Editing) → IsSameEditor old mid → IsSameEditor mid new → IsSameEditor old new
-same_twice old mid new one two = record {
-  queue = two.queue ∙ one.queue;
-  session = two.session ∙ one.session;
-  start = two.start ∙ one.start;
-  known = (
-    two.known.0 ∙ one.known.0,
-    (one.known.1.0 ++ two.known.1.0, sym (append_assoc old.known.log one.known.1.0 two.known.1.0) ∙ (ap (λ (l : List Notice). l ++ two.known.1.0) one.known.1.1 ∙ two.known.1.1)),
-  );
-}
+same_twice old mid new one two =
+    record { queue = two.queue ∙ one.queue; session = two.session ∙ one.session; start = two.start ∙ one.start; known = goes_trans old.known mid.known new.known one.known two.known }

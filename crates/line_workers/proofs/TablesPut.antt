@@ -1,23 +1,16 @@
 -- Tables of one generation, by several looks at the board.
 use Rattle.std.proofs.Common.{◌≡◌, ◌∙◌, ap, arith, refl, sym, subst, add-one, ℕ, ◌+◌, ◌<◌, List, [], ◌∷◌, ◌++◌, length, append_assoc, max, Option, Some, None}
-use Rattle.std.proofs.lemmas.List.Concat.{flat_map-append}
-use Rattle.std.proofs.lemmas.List.Elements.{Contains-append_left}
 use Rattle.std.proofs.lemmas.List.{map-append}
-use Rattle.std.specs.List.{Contains}
 use Rattle.graph_edits.specs.Edges.{below}
 use Rattle.schemes.specs.declared.parts.Parts.{Parts}
-use Rattle.generations.specs.declared.posting.Notice.{Notice}
-use Rattle.generations.specs.Notices.{generation_of, generations_in}
 use Rattle.generations.specs.Beginnings.{Beginning, GoesOn, board_after}
 use Rattle.generations.specs.Boards.{scheme_of}
-use Rattle.generations.specs.Knowledges.{Knowledge}
-use Rattle.generations.specs.Misses.{IsMissed}
-use Rattle.generations.specs.declared.reader.Shut.{Shut}
 use Rattle.generations.specs.declared.reader.Shut.TheVariants as shut
 use Rattle.generations.proofs.Sharing.{goes_self}
 use Rattle.forwarders.specs.declared.refused.Refused.TheVariants as refused
 use Rattle.forwarders.specs.Arrivals.{IsLawfulList, IsPublished}
 use Rattle.forwarders.proofs.Published.{found_published, published_there}
+use Rattle.packet_ways.proofs.Newest.{published_on}
 use Rattle.table_files.specs.declared.totals.Totals.{Totals}
 use Rattle.table_files.specs.Files.{Put}
 use Rattle.table_files.specs.Tables.{IsTotalOf, file_of, files_of}
@@ -32,19 +25,8 @@ use Rattle.line_workers.specs.Tables.{HasGeneration, HasNode, HasPutFirst, HasPu
 
 -- ---- lists that go on
 
--- a look that gives no board leaves what was known
-pub missed : (e : Shut) (old new : Knowledge) → IsMissed e old new → GoesOn old.all new.all
-missed shut.Refused old new is = subst (λ (k : Knowledge). GoesOn old.all k.all) (sym is) (goes_self old.all)
-missed shut.Behind old new is = subst (λ (b : Beginning). GoesOn old.all b) (sym is.all) (goes_self old.all)
-
--- what was published stays so
-pub published_later : (a b : Beginning) (n : ℕ) (p : Parts) → GoesOn a b → IsPublished a n p → IsPublished b n p
-published_later a b n p on is =
-    subst (λ (l : List Notice). Contains (generations_in l) (n, p)) on.1.1
-    (subst (λ (gs : List (ℕ × Parts)). Contains gs (n, p)) (sym (flat_map-append generation_of a.log on.1.0)) (Contains-append_left (generations_in a.log) (generations_in on.1.0) (n, p) is))
-
 pub node_later : (a b : Beginning) (generation node : ℕ) → GoesOn a b → HasNode a generation node → HasNode b generation node
-node_later a b generation node on has = record { scheme = has.scheme; published = published_later a b generation has.scheme on has.published; there = has.there }
+node_later a b generation node on has = record { scheme = has.scheme; published = published_on a b generation has.scheme on has.published; there = has.there }
 
 -- the newest generation of a shelf was published
 pub newest_published : (known : Beginning) (newest : Newest) → IsNewestOn (board_after known).shelf newest → HasGeneration known newest
@@ -54,7 +36,7 @@ newest_published known newest is = record { scheme = is.scheme; published = publ
 
 -- what a lawful list's board shows under a number is the one scheme that was published under it
 pub one_scheme : (known seen : Beginning) (n : ℕ) (p q : Parts) → GoesOn known seen → IsLawfulList seen → IsPublished known n p → scheme_of n (board_after seen).shelf ≡ Some q → q ≡ p
-one_scheme known seen n p q on lawful is shown = found_published seen seen n p q lawful (published_later known seen n p on is) (goes_self seen) shown
+one_scheme known seen n p q on lawful is shown = found_published seen seen n p q lawful (published_on known seen n p on is) (goes_self seen) shown
 
 pub node_shown : (known seen : Beginning) (generation node : ℕ) (q : Parts) → GoesOn known seen → IsLawfulList seen → HasNode known generation node → scheme_of generation (board_after seen).shelf ≡ Some q → node < q.nodes
 node_shown known seen generation node q on lawful has shown =
@@ -81,8 +63,8 @@ looked_by known seen generation folder node looked on lawful is = by_found known
 -- by less that was known it is the same
 pub looked_since : (before known seen : Beginning) (generation : ℕ) (folder : List ℕ) (node : ℕ) (looked : Looked) → GoesOn before known → IsLookedBy known seen generation folder node looked
     → IsLookedBy before seen generation folder node looked
-looked_since before known seen generation folder node (File file) on is = λ p published. is p (published_later before known generation p on published)
-looked_since before known seen generation folder node (Halted why) on is = λ p published. is p (published_later before known generation p on published)
+looked_since before known seen generation folder node (File file) on is = λ p published. is p (published_on before known generation p on published)
+looked_since before known seen generation folder node (Halted why) on is = λ p published. is p (published_on before known generation p on published)
 looked_since before known seen generation folder node Gone on is = is
 looked_since before known seen generation folder node NoLook on is = is
 
@@ -116,7 +98,7 @@ next_put known later newest count folder old mid new totals next len on has put 
     let before = files_of p folder (below count) in
     record {
       scheme = p;
-      published = published_later known later newest.generation p on has.published;
+      published = published_on known later newest.generation p on has.published;
       size = has.size;
       files = one.0 ∙ ap (λ (puts : List Put). puts ++ file ∷ []) has.files ∙ append_assoc old before (file ∷ []) ∙ ap (λ (puts : List Put). old ++ puts) (sym (files_more p folder count));
       totals = subst (λ (puts : List Put). IsTotalOf next puts) (sym (files_more p folder count))
@@ -137,7 +119,7 @@ some_put known later newest count folder old mid new totals less on same has = (
   less,
   record {
     scheme = has.scheme;
-    published = published_later known later newest.generation has.scheme on has.published;
+    published = published_on known later newest.generation has.scheme on has.published;
     size = has.size;
     files = same ∙ has.files;
     totals = has.totals;

@@ -21,7 +21,7 @@ use schemes::{Address, Move, Packet};
 use std::alloc::{AllocError, Global};
 
 /// What is answered to a line.
-#[derive(Debug, PartialEq, Eq, Drop)]
+#[derive(Drop)]
 pub enum Answer {
     /// What became of an edit: the mark of its session and its ticket.
     Settled(Mark),

@@ -18,7 +18,7 @@ use std::alloc::{AllocError, Global};
 use value_syntax::{change_in, node, number, op};
 
 /// What a line asks for.
-#[derive(Debug, PartialEq, Eq, Drop)]
+#[derive(PartialEq, Eq, Drop)]
 pub enum Asked {
     /// A change of a session, under a ticket of its own or under the next one.
     Edit {

@@ -6,7 +6,7 @@ ghost use Rattle.live_lines.specs.Metrics.{metrics_text, named, pair_text, pairs
 use std::fmt;
 
 /// Of which kind an answer is, in the order in which metrics tell how many there are.
-#[derive(Clone, Copy, Debug, PartialEq, Eq, Drop)]
+#[derive(Clone, Copy, Drop)]
 pub enum Kind {
     Accepted,
     Refused,
@@ -33,7 +33,7 @@ pub enum Kind {
 pub const KINDS: usize = 19;
 
 /// The commits since the start, and the least, the median and the greatest time of the last ones, in microseconds.
-#[derive(Clone, Copy, Debug, PartialEq, Eq, Drop)]
+#[derive(Clone, Copy, Drop)]
 pub struct CommitFigures {
     pub count: u64,
     pub least: u64,
@@ -42,7 +42,7 @@ pub struct CommitFigures {
 }
 
 /// What a service tells a monitor of itself.
-#[derive(Clone, Copy, Debug, PartialEq, Eq, Drop)]
+#[derive(Clone, Copy, Drop)]
 pub struct Metrics {
     /// How many answers were printed before this one, and how many of each kind.
     pub answers: u64,

@@ -28,30 +28,19 @@ pub(crate) fn word_in(text: &str) -> Option<Word>
     ensures found { IfSome result (λ word. text.now ≡ word_text word) }
     ensures only { (word : Word) → text.now ≡ word_text word → result ≡ Some word }
 {
-    if text == "edit" {
-        Some(Word::Edit)
-    } else if text == "resume" {
-        Some(Word::Resume)
-    } else if text == "route" {
-        Some(Word::Route)
-    } else if text == "address" {
-        Some(Word::Address)
-    } else if text == "launch" {
-        Some(Word::Launch)
-    } else if text == "hop" {
-        Some(Word::Hop)
-    } else if text == "state" {
-        Some(Word::State)
-    } else if text == "wait" {
-        Some(Word::Wait)
-    } else if text == "tables" {
-        Some(Word::Tables)
-    } else if text == "backup" {
-        Some(Word::Backup)
-    } else if text == "metrics" {
-        Some(Word::Metrics)
-    } else {
-        None
+    match text {
+        "edit" => Some(Word::Edit),
+        "resume" => Some(Word::Resume),
+        "route" => Some(Word::Route),
+        "address" => Some(Word::Address),
+        "launch" => Some(Word::Launch),
+        "hop" => Some(Word::Hop),
+        "state" => Some(Word::State),
+        "wait" => Some(Word::Wait),
+        "tables" => Some(Word::Tables),
+        "backup" => Some(Word::Backup),
+        "metrics" => Some(Word::Metrics),
+        _ => None,
     }
 }
 

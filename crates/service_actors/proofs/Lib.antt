@@ -1,5 +1,3 @@
-pub mod Outcomes
-pub mod OneChange
 pub mod AsAsked
 pub mod Resting
 pub mod PacketsOnWay

@@ -30,11 +30,6 @@ use Rattle.packet_ways.specs.declared.carried.Trip.{Trip}
 use Rattle.packet_ways.specs.Carried.{HoldsOf, IsCarried, IsUnderWay}
 use Rattle.service_actors.specs.Forwarded.{IsLaunched, IsOnWay, IsSent, launched_at}
 
--- ---- knowing more
-
-holds_later : (known later : Beginning) (P : Beginning → Type 0) → GoesOn known later → HoldsOf known P → HoldsOf later P
-holds_later known later P on holds all lawful are_named from_here = holds all lawful are_named (goes_trans known later all on from_here)
-
 -- ---- answers of a shelf
 
 ok_by_name : {A : Type 0} (r : Result A scheme.Refused) (a : A) → by_name r ≡ Ok a → r ≡ Ok a
@@ -148,12 +143,8 @@ sent_by known later generation u v a given sent packet on looked is launched ok 
     let p : Parts = by_one.0 in
     let same : found.0 ≡ p = same_scheme all later generation v a found.0 lawful from_here by_one found.1 in
     let decided : decide (tables p) u a ≡ Ok packet = subst (λ (q : Parts). decide (tables q) u a ≡ Ok packet) same found.2 in
-    let of : packet.generation ≡ p.generation = generation_is (decide (tables p) u a) packet (decide_generation (tables p) u a) decided in
+    let of : packet.generation ≡ p.generation = subst (λ (r : Result Packet scheme.Refused). IfOk r (λ (z : Packet). z.generation ≡ p.generation)) decided (decide_generation (tables p) u a) in
     (p, subst (λ (n : ℕ). IsPublished all n p) (sym (of ∙ by_one.2)) by_one.1, subst (λ (b : Address). decide (tables p) u b ≡ Ok packet) by_one.3.own decided)
-  where
-    generation_is : {n : ℕ} (r : Result Packet scheme.Refused) (k : Packet) → IfOk r (λ (z : Packet). z.generation ≡ n) → r ≡ Ok k → k.generation ≡ n
-    generation_is (Ok z) k holds e = (let same : z ≡ k = cc in sym (ap (λ (y : Packet). y.generation) same) ∙ holds)
-    generation_is (Err z) k holds e = absurd (cc)
 
 -- an address that isn't given
 pub address_refused : (known : Beginning) (trip : Trip) (generation : ℕ) (given : Result Address Refused) (refused : Refused) → Looked given (address_at generation trip.to (board_after known).shelf)
@@ -223,17 +214,12 @@ hopped_on known later u v generation nodes more at packet port next left answer 
     let here = way all lawful are_named (goes_trans known later all on from_here) in
     let p : Parts = here.0 in
     let step : node_step (tables p) at packet ≡ Ok (Forward port next left) = moved all later at generation packet answer (Forward port next left) p lawful from_here here.1 here.2 hopped is in
-    let kept : left.generation ≡ packet.generation = keeps (node_step (tables p) at packet) (node_step_generation (tables p) at packet) step in
+    let kept : left.generation ≡ packet.generation = subst (λ (r : Result Move scheme.Refused). IfOk r (IsOfGeneration packet.generation)) step (node_step_generation (tables p) at packet) in
     let under = here.3.2 in
     let next_way = under_way_more (tables p) u (address (tables p) v) nodes here.3.0 here.3.1 at packet port next left under step in
     let ports : List ℕ = here.3.0 ++ port ∷ [] in
     let long : ℕ = min (here.3.1 + trail.gap (tables p) packet.root at next) (2 ^ 64 - 1) in
     (p, here.1, kept ∙ here.2, (ports, long, subst (λ (ns : List ℕ). trail.IsUnderWay (tables p) u (address (tables p) v) ns ports long next left) (sym longer) next_way))
-  where
-    keeps : (r : Result Move scheme.Refused) → IfOk r (IsOfGeneration packet.generation) → r ≡ Ok (Forward port next left) → left.generation ≡ packet.generation
-    keeps (Ok Delivered) holds e = absurd (cc)
-    keeps (Ok (Forward q y k)) holds e = (let same : k ≡ left = cc in sym (ap (λ (z : Packet). z.generation) same) ∙ holds)
-    keeps (Err z) holds e = absurd (cc)
 
 -- what is told is this way in this generation
 abbrev pub IsAlong : Carried → ℕ → List ℕ → Type 0

@@ -1,5 +1,5 @@
 -- Editors between two changes.
-use Rattle.std.specs.Prelude.{ℕ, ◌≡◌, ◌<◌, ◌++◌, ◌∷◌, [], List, Option, Some, None, IfSome}
+use Rattle.std.specs.Prelude.{ℕ, ◌≡◌, ◌≢◌, ◌<◌, ◌++◌, ◌∷◌, [], List, Option, Some, None, IfSome}
 use Rattle.std.specs.List.{Contains}
 use Rattle.std.proofs.Common.{refl, sym, ap, ◌∙◌, subst}
 use Rattle.std.proofs.Math.Nat.{ℕ_set}
@@ -19,7 +19,7 @@ use Rattle.intake.specs.Turns.{last_or_start}
 use Rattle.service_actors.specs.Edited.{IsEdited, IsLastMark, IsSameEditor, IsTold}
 use Rattle.service_actors.specs.EditedAsAsked.{HasPut, IsEditEnd, IsNew, IsToldBefore}
 use Rattle.service_actors.specs.declared.session_editor.EditEnd.{EditEnd}
-use Rattle.service_actors.specs.declared.session_editor.EditEnd.TheVariants.{RefusedBefore, OldTicket}
+use Rattle.service_actors.specs.declared.session_editor.EditEnd.TheVariants.{Settled, RefusedBefore, OldTicket}
 use Rattle.service_actors.specs.declared.session_editor.Put.TheVariants as tried
 use Rattle.service_actors.specs.AtRest.{IsAtRest, IsLastTold, RisesFrom, last_by}
 use Rattle.service_actors.proofs.AsAsked.{last_after}
@@ -64,7 +64,7 @@ told_still old new (Some mark) same put is = (
   is.1 ∙ sym (ap (λ (s : ℕ). last_or_start s new.put) same.start ∙ ap (λ (rs : List Request). last_or_start old.start rs) put),
 )
 
-pub rests_still : (old new : Editing) (told : Option Mark) → IsSameEditor old new → new.put ≡ old.put → ∥ IsAtRest old told ∥₁ → ∥ IsAtRest new told ∥₁
+rests_still : (old new : Editing) (told : Option Mark) → IsSameEditor old new → new.put ≡ old.put → ∥ IsAtRest old told ∥₁ → ∥ IsAtRest new told ∥₁
 rests_still old new told same put rests = ∥∥₁_map rests (λ r. still r)
   where
     still : IsAtRest old told → IsAtRest new told
@@ -74,7 +74,7 @@ rests_still old new told same put rests = ∥∥₁_map rests (λ r. still r)
     }
 
 -- one whose change more is settled
-pub rests_settled : (old new : Editing) (told : Option Mark) (change : List Op) (ticket : ℕ) (mark : Mark) → IsSameEditor old new → IsEdited old change new mark → mark.ticket ≡ ticket → IsNew old ticket → ∥ IsAtRest old told ∥₁
+rests_settled : (old new : Editing) (told : Option Mark) (change : List Op) (ticket : ℕ) (mark : Mark) → IsSameEditor old new → IsEdited old change new mark → mark.ticket ≡ ticket → IsNew old ticket → ∥ IsAtRest old told ∥₁
     → ∥ IsAtRest new (Some mark) ∥₁
 rests_settled old new told change ticket mark same edited under is rests = ∥∥₁_map rests (λ r. settled r)
   where
@@ -84,6 +84,13 @@ rests_settled old new told change ticket mark same edited under is rests = ∥�
           (rises_more old.start old.put (record { session = old.session; ticket = mark.ticket; change = change }) r.rises (subst (λ (t : ℕ). IsNew old t) (sym under) is)));
       told = (subst (λ (s : ℕ). IsTold s new.known mark) (sym same.session) edited.told, last_after new.put old.put new.start old.session mark.ticket change edited.put);
     }
+
+-- whatever its change came to
+pub rests_after : (old new : Editing) (told last : Option Mark) (change : List Op) (ticket : ℕ) (end : EditEnd) → IsSameEditor old new → IsEditEnd old ticket change new end
+    → ((mark : Mark) → end ≡ Settled mark → last ≡ Some mark) → (((mark : Mark) → end ≢ Settled mark) → last ≡ told) → ∥ IsAtRest old told ∥₁ → ∥ IsAtRest new last ∥₁
+rests_after old new told last change ticket (Settled mark) same ended settled others rests =
+    subst (λ (o : Option Mark). ∥ IsAtRest new o ∥₁) (sym (settled mark refl)) (rests_settled old new told change ticket mark same ended.0 ended.1 ended.2 rests)
+rests_after old new told last change ticket _ same ended settled others rests = subst (λ (o : Option Mark). ∥ IsAtRest new o ∥₁) (sym (others (λ mark is. cc))) (rests_still old new told same ended.0 rests)
 
 -- ---- tickets that were submitted before
 

@@ -7,7 +7,7 @@ ghost use Rattle.packet_ways.specs.Carried.{IsCarried};
 ghost use Rattle.service_actors.specs.Forwarded.{IsByNewest, WasNewest};
 
 use crate::coordinator::Coordinator;
-use crate::forwarding::{BoardForwarder, forward};
+use crate::forwarding::{BoardForwarder, forward, look};
 use crate::gate::Gate;
 use forwarders::{Forwarder, Refused};
 use generations::History;
@@ -31,8 +31,7 @@ fn address_now<J: BoardName, R: Wait>(
     ensures newest { IfSome result (λ r. WasNewest forwarder.old forwarder.new r.0) }
 {
     for _ in rt.forever() {
-        let shown = coordinator.shown(rt)?;
-        forwarder.learn(shown.told.told());
+        look(rt, coordinator, forwarder)?;
         let Ok(Some(generation)) = forwarder.latest() else {
             thread::yield_now();
             continue;
@@ -61,8 +60,7 @@ fn launch_now<J: BoardName, R: Wait>(
     ensures some { IfSome result (λ _. IsSome (newest_in forwarder.new.log)) }
 {
     for _ in rt.forever() {
-        let shown = coordinator.shown(rt)?;
-        forwarder.learn(shown.told.told());
+        look(rt, coordinator, forwarder)?;
         match forwarder.launch(from, to) {
             Ok(packet) => return Some(Ok(packet)),
             Err(Refused::BoardShut) => thread::yield_now(),
@@ -88,8 +86,7 @@ fn hop_now<J: BoardName, R: Wait>(
 {
     let mut packet = packet;
     for _ in rt.forever() {
-        let shown = coordinator.shown(rt)?;
-        forwarder.learn(shown.told.told());
+        look(rt, coordinator, forwarder)?;
         match forwarder.hop(at, packet) {
             Ok(step) => return Some(Ok(step)),
             Err((Refused::BoardShut, back)) => {

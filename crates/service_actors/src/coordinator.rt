@@ -146,14 +146,6 @@ impl<J: BoardName> SharedState<J> {
         self.ask();
     }
 
-    fn reach(&mut self, count: u64) {
-        self.reached = self.reached.max(count);
-    }
-
-    fn see(&mut self, generation: u64) {
-        self.seen = self.seen.max(generation);
-    }
-
     fn standing(&self) -> ServiceState<J> {
         ServiceState {
             stand: self.stand.again(),
@@ -168,18 +160,6 @@ impl<J: BoardName> SharedState<J> {
     fn ask_backup(&mut self, path: String) {
         self.backup = Some(path);
         self.ask();
-    }
-
-    fn take_backup(&mut self) -> Option<String> {
-        self.backup.take()
-    }
-
-    fn tell_backup(&mut self, backed: Backed<J>) {
-        self.backed = Some(backed);
-    }
-
-    fn take_backed(&mut self) -> Option<Backed<J>> {
-        self.backed.take()
     }
 
     fn leave(&mut self) {
@@ -231,12 +211,14 @@ impl<J: BoardName> Coordinator<J> {
 
     /// A change was accepted as the one of this number.
     pub fn reach<R: Wait>(&self, rt: &R, count: u64) {
-        self.shared.lock(rt).reach(count);
+        let mut shared = self.shared.lock(rt);
+        shared.reached = shared.reached.max(count);
     }
 
     /// The generation of this number was seen.
     pub fn see<R: Wait>(&self, rt: &R, generation: u64) {
-        self.shared.lock(rt).see(generation);
+        let mut shared = self.shared.lock(rt);
+        shared.seen = shared.seen.max(generation);
     }
 
     /// How the service stands.
@@ -280,17 +262,17 @@ impl<J: BoardName> Coordinator<J> {
             self.shared.lock(rt),
             |shared| shared.backed.is_none() && shared.cause.is_none(),
         );
-        shared.take_backed()
+        shared.backed.take()
     }
 
     /// The path of the backup that is asked for, where one is.
     pub fn asked_backup<R: Wait>(&self, rt: &R) -> Option<String> {
-        self.shared.lock(rt).take_backup()
+        self.shared.lock(rt).backup.take()
     }
 
     /// Tells what came of the backup that was asked for.
     pub fn tell_backup<R: Wait>(&self, rt: &R, backed: Backed<J>) {
-        self.shared.lock(rt).tell_backup(backed);
+        self.shared.lock(rt).backed = Some(backed);
         self.news.notify_all();
     }
 

@@ -1,6 +1,7 @@
 // A packet on its way.
-ghost use Rattle.std.specs.Prelude.{◌≡◌, IfSome};
+ghost use Rattle.std.specs.Prelude.{◌≡◌, IfSome, IsSome};
 ghost use Rattle.generations.specs.Beginnings.{GoesOn};
+ghost use Rattle.generations.specs.Notices.{newest_in};
 ghost use Rattle.packet_ways.specs.Carried.{IsCarried};
 ghost use Rattle.service_actors.specs.Forwarded.{IsAlongIn, IsByNewest, IsLaunched, IsLaunchedByNewest, IsSent, launched_at};
 
@@ -34,6 +35,22 @@ impl<J: BoardName> BoardForwarder<J> {
             of: PhantomData,
         }
     }
+}
+
+// Learns what was told last, once there is a generation. None where all stop.
+pub(crate) fn look<J: BoardName, R: Wait>(
+    rt: &R,
+    coordinator: &Coordinator<J>,
+    forwarder: &mut Forwarder,
+) -> Option<()>
+    requires { forwarder.old.opening ≡ J.opening }
+    ensures opening { forwarder.new.opening ≡ J.opening }
+    ensures kept { GoesOn forwarder.old forwarder.new }
+    ensures some { IfSome result (λ _. IsSome (newest_in forwarder.new.log)) }
+{
+    let shown = coordinator.shown(rt)?;
+    forwarder.learn(shown.told.told());
+    Some(())
 }
 
 // What became of one launch.
@@ -173,8 +190,7 @@ pub(crate) fn forward<J: BoardName, G: Gate, R: Wait>(
 {
     for _ in rt.forever() {
         gate.before_launch();
-        let shown = coordinator.shown(rt)?;
-        forwarder.learn(shown.told.told());
+        look(rt, coordinator, forwarder)?;
         match launch(rt, alloc, coordinator, gate, forwarder, trip) {
             Launched::Answered(carried) => return Some(carried),
             Launched::Again => thread::yield_now(),

@@ -1,12 +1,13 @@
 // An editor that takes its changes one at a time, as they are asked for.
-ghost use Rattle.std.specs.Prelude.{◌≡◌, [], IfSome};
+ghost use Rattle.std.specs.Prelude.{◌≡◌, ◌≢◌, [], IfSome, Some};
+ghost use Rattle.generations.specs.declared.posting.Mark.{Mark};
 ghost use Rattle.requests.specs.Tickets.{last_of};
 ghost use Rattle.service_actors.specs.Edited.{IsSameEditor};
 ghost use Rattle.service_actors.specs.EditedAsAsked.{HasPut, IsEditEnd, IsToldBefore, asked_ticket};
 ghost use Rattle.service_actors.specs.AtRest.{IsAtRest, last_by};
 
 use crate::coordinator::Coordinator;
-use crate::editing::settled;
+use crate::editing::{learn_news, settled};
 use crate::stop_cause::StopCause;
 use generations::{History, Mark, Verdict};
 use graph_edits::{Change, Code};
@@ -26,7 +27,7 @@ enum Put {
 }
 
 /// What came of a change that was asked for under a ticket.
-#[derive(Clone, Copy, Debug, PartialEq, Eq, Drop)]
+#[derive(Clone, Copy, Drop)]
 pub enum EditEnd {
     /// It is settled.
     Settled(Mark),
@@ -70,27 +71,18 @@ fn put_as_asked<J: BoardName, R: Wait>(
 {
     let mut change = change;
     for _ in rt.forever() {
-        let news = coordinator.news(rt);
-        if news.stopped {
-            return None;
-        }
-        editor.learn(news.stand.told.told());
-        match editor.submit(rt, ticket, change) {
-            Ok(()) => {
-                coordinator.ask(rt);
-                return Some(Put::In);
-            }
-            Err((SubmitRefused::BoardShut, back)) => {
-                change = back;
-                thread::yield_now();
-            }
-            Err((SubmitRefused::QueueFull, back)) | Err((SubmitRefused::Busy, back)) => {
-                change = back;
-                coordinator.await_news(rt, news.turn);
-            }
-            Err((SubmitRefused::AlreadyIn, _)) => return Some(Put::AlreadyIn),
-            Err((SubmitRefused::OldTicket, _)) => return Some(Put::Old),
-            Err((SubmitRefused::Worn, _)) => return Some(Put::PastLimit),
+        let turn = learn_news(rt, coordinator, editor)?;
+        let Err((refused, back)) = editor.submit(rt, ticket, change) else {
+            coordinator.ask(rt);
+            return Some(Put::In);
+        };
+        change = back;
+        match refused {
+            SubmitRefused::BoardShut => thread::yield_now(),
+            SubmitRefused::QueueFull | SubmitRefused::Busy => coordinator.await_news(rt, turn),
+            SubmitRefused::AlreadyIn => return Some(Put::AlreadyIn),
+            SubmitRefused::OldTicket => return Some(Put::Old),
+            SubmitRefused::Worn => return Some(Put::PastLimit),
         }
     }
     unreachable!()
@@ -195,7 +187,7 @@ impl<J: BoardName> SessionEditor<J> {
         self.editor
     }
 
-    #[tactic(auto, using(crate::proofs::Resting::last_resting, crate::proofs::Resting::rests_still))]
+    #[tactic(auto, using(crate::proofs::Resting::last_resting))]
     /// Submits a change under a ticket, or where none is named under the one behind the last, and waits for its mark. Gives the
     /// editor back, with the ticket and what came of the change. None where all stop.
     pub fn edit<R: Wait>(
@@ -220,36 +212,35 @@ impl<J: BoardName> SessionEditor<J> {
             Some(ticket) => ticket,
             None => last.saturating_add(1),
         };
-        match edit_as_asked(rt, coordinator, &mut editor, told, ticket, change)? {
-            EditEnd::Settled(mark) => {
-                let editor = SessionEditor {
-                    editor,
-                    told: Some(mark),
-                    accepted: accepted_by(&mark, accepted),
-                    of,
-                };
-                Some((editor, ticket, EditEnd::Settled(mark)))
-            }
-            end @ (EditEnd::AlreadyIn
-            | EditEnd::RefusedBefore { .. }
-            | EditEnd::OldTicket
-            | EditEnd::PastLimit) => {
-                let editor = SessionEditor {
-                    editor,
-                    told,
-                    accepted,
-                    of,
-                };
-                Some((editor, ticket, end))
-            }
-        }
+        let end = edit_as_asked(rt, coordinator, &mut editor, told, ticket, change)?;
+        let editor = SessionEditor {
+            editor,
+            told: told_after(end, told),
+            accepted: accepted_after(end, accepted),
+            of,
+        };
+        Some((editor, ticket, end))
     }
 }
 
-// The last ticket that was accepted, behind a mark.
-fn accepted_by(mark: &Mark, accepted: u64) -> u64 {
-    match mark.verdict {
-        Verdict::Accepted { count: _ } => mark.ticket,
-        Verdict::Refused { op: _, code: _ } => accepted,
+// The mark of the last change that was submitted, behind one that came to this.
+fn told_after(end: EditEnd, told: Option<Mark>) -> Option<Mark>
+    ensures settled { (mark : Mark) → end ≡ EditEnd.Settled mark → result ≡ Some mark }
+    ensures others { ((mark : Mark) → end ≢ EditEnd.Settled mark) → result ≡ told }
+{
+    match end {
+        EditEnd::Settled(mark) => Some(mark),
+        _ => told,
+    }
+}
+
+// The last ticket that was accepted, behind a change that came to this.
+fn accepted_after(end: EditEnd, accepted: u64) -> u64 {
+    match end {
+        EditEnd::Settled(mark) => match mark.verdict {
+            Verdict::Accepted { .. } => mark.ticket,
+            Verdict::Refused { .. } => accepted,
+        },
+        _ => accepted,
     }
 }

@@ -15,7 +15,7 @@ pub struct Timings {
 }
 
 /// The least, the median and the greatest of some times, each 0 where there is none.
-#[derive(Clone, Copy, Debug, PartialEq, Eq, Drop)]
+#[derive(Clone, Copy, Drop)]
 pub struct TimeSpan {
     pub least: u64,
     pub median: u64,

@@ -4,16 +4,7 @@ use Rattle.committer_thread.proofs.Settling.{listed_posted, on_course_first, on_
 use Rattle.committer_thread.proofs.beside.commit_beside.Goals as goal
 
 pub loop-init : goal.loop-init
-loop-init g c = (
-  tt,
-  (
-    tt,
-    (
-      c.requires.opening,
-      (c.in_ok-begin_first.ensures.goes, queue_first c.args.committer.now),
-    ),
-  ),
-)
+loop-init g c = (tt, (tt, (c.requires.opening, (c.in_ok-begin_first.ensures.goes, queue_first c.args.committer.now))))
 
 pub returns-in_err-begin_first-clause-settled : goal.returns-in_err-begin_first-clause-settled
 returns-in_err-begin_first-clause-settled g c = (on_course_first {builds = Beside} c.args.committer.now c.requires.fresh).settled
@@ -49,22 +40,16 @@ pub returns-then-work-clause-opening : goal.returns-then-work-clause-opening
 returns-then-work-clause-opening g c = c.loop.invariant.1.1.0
 
 pub loop-preserved-then-round-gt0 : goal.loop-preserved-then-round-gt0
-loop-preserved-then-round-gt0 g c = (
-  tt,
-  (
-    tt,
-    (c.in-Ok.ensures.opening, (c.in-Ok.ensures.goes c.args.committer.now c.loop.invariant.1.1.1.0, queue_twice c.args.committer.now c.loop.committer c.turn_beside.new.committer c.loop.invariant.1.1.1.1 c.turn_beside.ensures.queue)),
-  ),
-)
+loop-preserved-then-round-gt0 g c =
+    let goes = c.in-Ok.ensures.goes c.args.committer.now c.loop.invariant.1.1.1.0 in
+    let queue = queue_twice c.args.committer.now c.loop.committer c.turn_beside.new.committer c.loop.invariant.1.1.1.1 c.turn_beside.ensures.queue in
+    (tt, (tt, (c.in-Ok.ensures.opening, (goes, queue))))
 
 pub loop-preserved : goal.loop-preserved
-loop-preserved g c = (
-  tt,
-  (
-    tt,
-    (c.in-Ok-3.ensures.opening, (c.in-Ok-3.ensures.goes c.args.committer.now c.loop.invariant.1.1.1.0, queue_twice c.args.committer.now c.loop.committer c.turn_beside.new.committer c.loop.invariant.1.1.1.1 c.turn_beside.ensures.queue)),
-  ),
-)
+loop-preserved g c =
+    let goes = c.in-Ok-3.ensures.goes c.args.committer.now c.loop.invariant.1.1.1.0 in
+    let queue = queue_twice c.args.committer.now c.loop.committer c.turn_beside.new.committer c.loop.invariant.1.1.1.1 c.turn_beside.ensures.queue in
+    (tt, (tt, (c.in-Ok-3.ensures.opening, (goes, queue))))
 
 pub returns-in-Ok-2-clause-settled : goal.returns-in-Ok-2-clause-settled
 returns-in-Ok-2-clause-settled g c = (c.in-Ok-2.ensures.goes c.args.committer.now c.loop.invariant.1.1.1.0).on.settled

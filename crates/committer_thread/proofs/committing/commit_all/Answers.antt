@@ -5,34 +5,16 @@ pub returns-then-work-clause-posted : goal.returns-then-work-clause-posted
 returns-then-work-clause-posted g c = on_course_posted c.args.committer.now c.loop.committer c.loop.invariant.1.1.1.0
 
 pub loop-preserved-then-round-gt0 : goal.loop-preserved-then-round-gt0
-loop-preserved-then-round-gt0 g c = (
-  tt,
-  (
-    tt,
-    (
-      c.in-Ok.ensures.opening,
-      (
-        on_course_still c.args.committer.now c.loop.committer c.turn.new.committer c.loop.invariant.1.1.1.0 c.turn.ensures.turned c.in-Ok.ensures.settled c.turn.ensures.listed,
-        (queue_twice c.args.committer.now c.loop.committer c.turn.new.committer c.loop.invariant.1.1.1.1.0 c.turn.ensures.queue, c.in-Ok.ensures.shown),
-      ),
-    ),
-  ),
-)
+loop-preserved-then-round-gt0 g c =
+    let on = on_course_still c.args.committer.now c.loop.committer c.turn.new.committer c.loop.invariant.1.1.1.0 c.turn.ensures.turned c.in-Ok.ensures.settled c.turn.ensures.listed in
+    let queue = queue_twice c.args.committer.now c.loop.committer c.turn.new.committer c.loop.invariant.1.1.1.1.0 c.turn.ensures.queue in
+    (tt, (tt, (c.in-Ok.ensures.opening, (on, (queue, c.in-Ok.ensures.shown)))))
 
 pub loop-preserved : goal.loop-preserved
-loop-preserved g c = (
-  tt,
-  (
-    tt,
-    (
-      c.in-Ok-3.ensures.opening,
-      (
-        on_course_still c.args.committer.now c.loop.committer c.turn.new.committer c.loop.invariant.1.1.1.0 c.turn.ensures.turned c.in-Ok-3.ensures.settled c.turn.ensures.listed,
-        (queue_twice c.args.committer.now c.loop.committer c.turn.new.committer c.loop.invariant.1.1.1.1.0 c.turn.ensures.queue, c.in-Ok-3.ensures.shown),
-      ),
-    ),
-  ),
-)
+loop-preserved g c =
+    let on = on_course_still c.args.committer.now c.loop.committer c.turn.new.committer c.loop.invariant.1.1.1.0 c.turn.ensures.turned c.in-Ok-3.ensures.settled c.turn.ensures.listed in
+    let queue = queue_twice c.args.committer.now c.loop.committer c.turn.new.committer c.loop.invariant.1.1.1.1.0 c.turn.ensures.queue in
+    (tt, (tt, (c.in-Ok-3.ensures.opening, (on, (queue, c.in-Ok-3.ensures.shown)))))
 
 pub returns-in-Ok-2-clause-listed : goal.returns-in-Ok-2-clause-listed
 returns-in-Ok-2-clause-listed g c = turned_listed c.args.committer.now c.loop.committer c.turn.new.committer c.loop.invariant.1.1.1.0 c.turn.ensures.listed

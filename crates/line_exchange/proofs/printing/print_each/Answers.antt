@@ -1,11 +1,10 @@
-use Rattle.std.proofs.Common.{rules, ◌≡◌, ◌≢◌, ℕ, Option, Some, None, sym, subst, ◌∙◌}
+use Rattle.std.proofs.Common.{rules, ◌≡◌, ◌≢◌, Option, Some, None, sym, subst, ◌∙◌}
 use Rattle.std.specs.Io.KnownBytes.{Keeps}
 use Rattle.command_output.specs.Lines.{line}
 use Rattle.line_exchange.specs.Begun.{Begins}
 use Rattle.line_exchange.specs.declared.line_fault.LineFault.{LineFault}
 use Rattle.line_exchange.specs.declared.line_fault.LineFault.TheVariants.{Failed, Internal}
 use Rattle.live_lines.specs.Answers.{answer_text}
-use Rattle.line_exchange.specs.OneList.{IsOffAt, IsSaidAt}
 use Rattle.line_exchange.proofs.SaidLines.{ends_broken, ends_whole, one_printed_by, still_printed_by}
 use Rattle.line_exchange.proofs.printing.print_each.Goals as goal
 
@@ -19,22 +18,11 @@ loop-preserved g c =
     let tally = c.loop.tally in
     let answered = c.filled-answered.result in
     let adds = c.in-Some-with.ensures in
-    let place : answered.place ≡ tally.count = search rules in (
-      tt,
-      (
-        tt,
-        (
-          adds.on.0 ∙ c.loop.invariant.1.1.0,
-          (
-            adds.noted.book ∙ c.loop.invariant.1.1.1.0,
-            one_printed_by answer_text tally c.in-Some-with.more answered.known input editors old mid (text c.print_one.new.out) answered.answer
-                (still_printed_by answer_text tally input editors old (text c.loop.out) mid c.loop.invariant.1.1.1.1 c.in-Ok-Some.ensures.keeps) adds
-                (subst (λ (n : ℕ). ∥ IsSaidAt answered.known input editors n answered.answer ∥₁) place answered.is_answer)
-                (λ gone. subst (λ (n : ℕ). ∥ IsOffAt answered.known input editors n ∥₁) place (answered.is_off gone)) c.in-Ok.ensures.ok,
-          ),
-        ),
-      ),
-    )
+    let before = still_printed_by answer_text tally input editors old (text c.loop.out) mid c.loop.invariant.1.1.1.1 c.in-Ok-Some.ensures.keeps in
+    let now =
+    one_printed_by answer_text tally c.in-Some-with.more answered.known input editors answered.place old mid (text c.print_one.new.out) answered.answer before adds (search rules) answered.is_answer answered.is_off
+    c.in-Ok.ensures.ok in
+    (tt, (tt, (adds.on.0 ∙ c.loop.invariant.1.1.0, (adds.noted.book ∙ c.loop.invariant.1.1.1.0, now))))
 
 pub loop-preserved-in-Ok : goal.loop-preserved-in-Ok
 loop-preserved-in-Ok g c =
@@ -46,22 +34,11 @@ loop-preserved-in-Ok g c =
     let tally = c.loop.tally in
     let answered = c.filled-answered.result in
     let adds = c.in-Some-with.ensures in
-    let place : answered.place ≡ tally.count = search rules in (
-      tt,
-      (
-        tt,
-        (
-          adds.on.0 ∙ c.loop.invariant.1.1.0,
-          (
-            adds.noted.book ∙ c.loop.invariant.1.1.1.0,
-            one_printed_by answer_text tally c.in-Some-with.more answered.known input editors old mid (text c.print_one.new.out) answered.answer
-                (still_printed_by answer_text tally input editors old (text c.loop.out) mid c.loop.invariant.1.1.1.1 c.in-Ok-Some.ensures.keeps) adds
-                (subst (λ (n : ℕ). ∥ IsSaidAt answered.known input editors n answered.answer ∥₁) place answered.is_answer)
-                (λ gone. subst (λ (n : ℕ). ∥ IsOffAt answered.known input editors n ∥₁) place (answered.is_off gone)) c.in-Ok.ensures.ok,
-          ),
-        ),
-      ),
-    )
+    let before = still_printed_by answer_text tally input editors old (text c.loop.out) mid c.loop.invariant.1.1.1.1 c.in-Ok-Some.ensures.keeps in
+    let now =
+    one_printed_by answer_text tally c.in-Some-with.more answered.known input editors answered.place old mid (text c.print_one.new.out) answered.answer before adds (search rules) answered.is_answer answered.is_off
+    c.in-Ok.ensures.ok in
+    (tt, (tt, (adds.on.0 ∙ c.loop.invariant.1.1.0, (adds.noted.book ∙ c.loop.invariant.1.1.1.0, now))))
 
 whole_unbroken : ◌≡◌ {A = Option LineFault} None (Some Failed) → ⊥
 whole_unbroken is = cc
@@ -95,10 +72,8 @@ returns-in-Err-Failed-clause-printed g c =
     let mid = c.next-in-loop.new.out in
     let tally = c.loop.tally in
     let answered = c.filled-answered.result in
-    let place : answered.place ≡ tally.count = search rules in
+    let before = still_printed_by answer_text tally input editors (text c.args.out.now) (text c.loop.out) (text mid) c.loop.invariant.1.1.1.1 c.in-Ok-Some.ensures.keeps in
     let begun : Begins (text mid) (text c.print_one.new.out) (line (answer_text answered.answer)) = search rules in
     let failed : g.O.AnswerWriter.has_failed c.print_one.new.out = search rules in
-    ends_broken g.O.AnswerWriter tally c.in-Some-with.more answered.known input editors c.args.out.now mid c.print_one.new.out answered.answer
-    (still_printed_by answer_text tally input editors (text c.args.out.now) (text c.loop.out) (text mid) c.loop.invariant.1.1.1.1 c.in-Ok-Some.ensures.keeps) c.in-Some-with.ensures
-    (subst (λ (n : ℕ). ∥ IsSaidAt answered.known input editors n answered.answer ∥₁) place answered.is_answer)
-    (λ gone. subst (λ (n : ℕ). ∥ IsOffAt answered.known input editors n ∥₁) place (answered.is_off gone)) begun failed
+    ends_broken g.O.AnswerWriter tally c.in-Some-with.more answered.known input editors answered.place c.args.out.now mid c.print_one.new.out answered.answer before c.in-Some-with.ensures (search rules)
+    answered.is_answer answered.is_off begun failed

@@ -1,15 +1,8 @@
-use Rattle.std.proofs.Common.{sym, subst}
-use Rattle.generations.specs.Beginnings.{Beginning}
-use Rattle.packet_ways.specs.Standing.{IsNewest}
-use Rattle.packet_ways.proofs.Newest.{newest_later}
+use Rattle.packet_ways.proofs.Newest.{some_newest_on}
 use Rattle.service_actors.proofs.asked_forwarding.hop_now.Goals as goal
 
 pub returns-in-Ok-clause-some : goal.returns-in-Ok-clause-some
-returns-in-Ok-clause-some g c =
-    let shown = c.in_ok-shown.shown in
-    newest_later c.told.result.now c.learn.new.self c.hop.new.self shown.generation c.learn.ensures.told c.in-Ok.ensures.kept (subst (λ (b : Beginning). IsNewest b shown.generation) (sym c.told.ensures.same) shown.newest)
+returns-in-Ok-clause-some g c = some_newest_on c.look.new.forwarder c.hop.new.self c.in-Ok.ensures.kept c.in_ok-look.ensures.some
 
 pub returns-in-Err-clause-some : goal.returns-in-Err-clause-some
-returns-in-Err-clause-some g c =
-    let shown = c.in_ok-shown.shown in
-    newest_later c.told.result.now c.learn.new.self c.hop.new.self shown.generation c.learn.ensures.told c.in-Err.ensures.kept (subst (λ (b : Beginning). IsNewest b shown.generation) (sym c.told.ensures.same) shown.newest)
+returns-in-Err-clause-some g c = some_newest_on c.look.new.forwarder c.hop.new.self c.in-Err.ensures.kept c.in_ok-look.ensures.some
