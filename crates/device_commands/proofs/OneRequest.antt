@@ -150,6 +150,14 @@ by_round {D = D} {V = V} old new rs r answer one up idle ran run verdict state d
     on_ok (Ok v) by = (by (λ e. cc)).0
     on_ok (Err f) by = tt
 
+-- a round is told as worn out only where it was
+pub worn_alone : (why : RoundRefused) → ◌≡◌ {A = Result Verdict Fault} (Err (round_fault why)) (Err told.Worn) → why ≡ refused.Worn
+worn_alone refused.Device e = absurd (cc)
+worn_alone refused.Down e = absurd (cc)
+worn_alone refused.Memory e = absurd (cc)
+worn_alone refused.Board e = absurd (cc)
+worn_alone refused.Worn e = refl
+
 -- and where the round was refused
 pub refused_by : {D R : Type 0} {V : _} → (old new : Committer D R V) (r : Request) (why : RoundRefused) → (held_or_taken old new ≡ []) ⊎ (held_or_taken old new ≡ r ∷ []) → is_down (store_of old) ≡ false → (posts_of old).due ≡ []
     → ((settled old new).accepted ≡ [] → store_of new ≡ store_of old) → IsSameDevice (view_of (store_of old)) (view_of (store_of new)) → LeavesEither (asked_group old new) new
@@ -157,7 +165,7 @@ pub refused_by : {D R : Type 0} {V : _} → (old new : Committer D R V) (r : Req
     → (why ≡ refused.Device → LosesDevice (asked_group old new) new) → (why ≡ refused.Board → StaysOwed old new ⊎ OwesMarks (asked_group old new) new)
     → IsSettledTo (state_by (state_of (store_of old)) r) r.change (store_of old) (store_of new) (Err (round_fault why))
 refused_by {D = D} {R = R} {V = V} old new r why one up due idle ran run stays down memory worn device board =
-    by_round (store_of old) (store_of new) (held_or_taken old new) r (Err (round_fault why)) one up idle ran run tt tt (decided why refl) (leaves why refl) (threadless why) (fails why refl)
+    by_round (store_of old) (store_of new) (held_or_taken old new) r (Err (round_fault why)) one up idle ran run tt tt (decided why refl) (λ e. (worn (worn_alone why e)).store) (threadless why) (fails why refl)
   where
     Decided : Type 0
     Decided = (is_down (store_of new) ≡ false) × ((state_of (store_of new) ≡ state_of (store_of old)) ⊎ (state_of (store_of new) ≡ (settled old new).state))
@@ -168,13 +176,6 @@ refused_by {D = D} {R = R} {V = V} old new r why one up due idle ran run stays d
     decided refused.Memory is not = (stays (λ e. let x : refused.Memory ≡ refused.Device = sym is ∙ e in cc), inl (memory is).state)
     decided refused.Board is not = (stays (λ e. let x : refused.Board ≡ refused.Device = sym is ∙ e in cc), ⊎_elim (λ owed. absurd (owed.due due)) (λ marks. inr marks.state) (board is))
     decided refused.Worn is not = (stays (λ e. let x : refused.Worn ≡ refused.Device = sym is ∙ e in cc), inl (ap state_of (worn is).store))
-
-    leaves : (w : RoundRefused) → why ≡ w → ◌≡◌ {A = Result Verdict Fault} (Err (round_fault w)) (Err told.Worn) → store_of new ≡ store_of old
-    leaves refused.Device is e = absurd (cc)
-    leaves refused.Down is e = absurd (cc)
-    leaves refused.Memory is e = absurd (cc)
-    leaves refused.Board is e = absurd (cc)
-    leaves refused.Worn is e = (worn is).store
 
     threadless : (w : RoundRefused) → ◌≡◌ {A = Result Verdict Fault} (Err (round_fault w)) (Err told.NoThread) → store_of new ≡ store_of old
     threadless refused.Device e = absurd (cc)
@@ -190,15 +191,7 @@ refused_by {D = D} {R = R} {V = V} old new r why one up due idle ran run stays d
     fails refused.Board is e = absurd (cc)
     fails refused.Worn is e = absurd (cc)
 
--- a round is told as worn out only where it was
-pub worn_alone : (why : RoundRefused) → ◌≡◌ {A = Result Verdict Fault} (Err (round_fault why)) (Err told.Worn) → why ≡ refused.Worn
-worn_alone refused.Device e = absurd (cc)
-worn_alone refused.Down e = absurd (cc)
-worn_alone refused.Memory e = absurd (cc)
-worn_alone refused.Board e = absurd (cc)
-worn_alone refused.Worn e = refl
-
--- and then the graph takes the change
+-- where a round was worn out, the graph takes the change
 pub worn_is_taken : {D R : Type 0} {V : _} → (old new : Committer D R V) (r : Request) → (held_or_taken old new ≡ []) ⊎ (held_or_taken old new ≡ r ∷ []) → KeepsGroup (asked_group old new) new → IsWorn (asked_group old new) new
     → IsTaken (state_of (store_of old)) r.change
 worn_is_taken old new r one kept worn =

@@ -9,7 +9,7 @@ use Rattle.checkpoint.specs.Opening.{IsNotOpened, TellsContent}
 use Rattle.command_output.specs.declared.fault.Fault.{Fault}
 use Rattle.command_output.specs.declared.fault.Fault.TheVariants as fault
 use Rattle.device_commands.specs.Edits.{EditsDevice}
-use Rattle.device_commands.specs.Openings.{AnswersOf, IsChangeFault, IsDeskFault, IsEditFault, IsOpenFault, IsQueueFault, IsUnwrittenFault, TellsNotOpened, TellsOf, open_fault}
+use Rattle.device_commands.specs.Openings.{AnswersOf, IsChangeFault, IsOpenFault, IsUnwrittenFault, TellsNotOpened, TellsOf, open_fault}
 
 -- a refused opening's fault tells what the refusal does
 opening_tells : (disk left : DiskView) (why : OpenRefused) → TellsContent disk left why → TellsOf (open_fault why) disk.content
@@ -49,16 +49,6 @@ change_tells fault.Worn content is = tt
 change_tells fault.AlreadyIn content is = tt
 change_tells _ content is = absurd is
 
--- they are among those of a change on a device
-pub change_edits : (fault : Fault) → IsChangeFault fault → IsEditFault fault
-change_edits fault.Device is = tt
-change_edits fault.Memory is = tt
-change_edits fault.NoThread is = tt
-change_edits fault.Internal is = tt
-change_edits fault.Worn is = tt
-change_edits fault.AlreadyIn is = tt
-change_edits _ is = absurd is
-
 -- of them these three alone are told where nothing was written
 unwritten_by : (f : Fault) (P : Type 0) → IsChangeFault f → (f ≡ fault.AlreadyIn → P) → (f ≡ fault.Worn → P) → (f ≡ fault.NoThread → P) → IsUnwrittenFault f → P
 unwritten_by fault.Device P is told worn thread un = absurd un
@@ -72,37 +62,6 @@ unwritten_by _ P is told worn thread un = absurd is
 pub change_unwritten : {A : Type 0} (r : Result A Fault) (P : Type 0) → IfErr r (λ f. IsChangeFault f) → (IsErrOf r fault.AlreadyIn → P) → (IsErrOf r fault.Worn → P) → (IsErrOf r fault.NoThread → P) → IfErr r (λ f. IsUnwrittenFault f → P)
 change_unwritten (Ok a) P is told worn thread = tt
 change_unwritten (Err f) P is told worn thread = unwritten_by f P is (λ same. told (ap Err same)) (λ same. worn (ap Err same)) (λ same. thread (ap Err same))
-
--- a queue's are a desk's
-pub queue_desk : (fault : Fault) → IsQueueFault fault → IsDeskFault fault
-queue_desk fault.Memory is = tt
-queue_desk fault.NoThread is = tt
-queue_desk fault.Internal is = tt
-queue_desk fault.Device is = absurd is
-queue_desk fault.Worn is = absurd is
-queue_desk _ is = absurd is
-
--- a desk's are among them
-pub desk_changes : (fault : Fault) → IsDeskFault fault → IsChangeFault fault
-desk_changes fault.Device is = tt
-desk_changes fault.Memory is = tt
-desk_changes fault.NoThread is = tt
-desk_changes fault.Internal is = tt
-desk_changes fault.Worn is = tt
-desk_changes _ is = absurd is
-
--- and so are those of an opening
-pub open_edits : (fault : Fault) → IsOpenFault fault → IsEditFault fault
-open_edits fault.Worn is = tt
-open_edits fault.AlreadyIn is = tt
-open_edits fault.NoThread is = tt
-open_edits fault.Internal is = tt
-open_edits fault.NotFormatted is = tt
-open_edits fault.LayoutNotKnown is = tt
-open_edits fault.Damaged is = tt
-open_edits fault.Device is = tt
-open_edits fault.Memory is = tt
-open_edits _ is = absurd is
 
 -- where memory alone ran out, all that holds of that holds of the fault
 pub of_memory : {A : Type 0} (r : Result A Fault) (P : Fault → Type 0) → P fault.Memory → IfErr r (λ f. f ≡ fault.Memory) → IfErr r P
@@ -157,6 +116,6 @@ not_edited session named change disk left f told = record {
   unwritten = λ model un. told.reads model;
   tells = told.tells;
   device = λ is. told.device (let same : f ≡ fault.Device = cc in same);
-  faults = open_edits f told.fault;
+  faults = inl told.fault;
   ran = told.ran;
 }

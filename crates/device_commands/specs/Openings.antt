@@ -1,5 +1,5 @@
 -- Why a device isn't formatted or opened, and a change isn't made.
-use Rattle.std.specs.Prelude.{◌≡◌, ◌≤◌, ◌<◌, ℕ, List, Result, IsTrue, IfErr, IfOk, IsErrOf}
+use Rattle.std.specs.Prelude.{◌≡◌, ◌⊎◌, ◌≤◌, ◌<◌, ℕ, List, Result, IsTrue, IfErr, IfOk, IsErrOf}
 use Rattle.graph_edits.specs.Edges.{most_nodes}
 use Rattle.disk_trait.specs.Disk.{DiskView, IsSameDevice, OnlyRead}
 use Rattle.requests.specs.Tickets.{last_of}
@@ -70,13 +70,9 @@ abbrev pub IsChangeFault : Fault → Type 0
 IsChangeFault AlreadyIn = Unit {0}
 IsChangeFault fault = IsDeskFault fault
 
--- the faults of a change on a device
+-- the faults of a change on a device: those of the opening, and those of the change
 abbrev pub IsEditFault : Fault → Type 0
-IsEditFault Worn = Unit {0}
-IsEditFault AlreadyIn = Unit {0}
-IsEditFault NoThread = Unit {0}
-IsEditFault Internal = Unit {0}
-IsEditFault fault = IsOpenFault fault
+IsEditFault fault = IsOpenFault fault ⊎ IsChangeFault fault
 
 -- the faults of an edit behind which the device was only read
 abbrev pub IsUnwrittenFault : Fault → Type 0

@@ -1,4 +1,4 @@
-use Rattle.std.proofs.Common.{◌≡◌, ◌∙◌, IsTrue, refl, subst, sym}
+use Rattle.std.proofs.Common.{◌≡◌, ◌∙◌, IsTrue, inr, refl, subst, sym}
 use Rattle.std.proofs.lemmas.Result.{IfErr-weaker}
 use Rattle.disk_trait.specs.Disk.{IsSameDevice, OnlyRead, ran_on}
 use Rattle.layout_2.specs.State.{State}
@@ -6,7 +6,7 @@ use Rattle.checkpoint.specs.StoreWords.{state_of, view_of}
 use Rattle.device_commands.specs.Answer.{state_after}
 use Rattle.device_commands.specs.Edits.{EditsState}
 use Rattle.device_commands.proofs.OneRequest.{edit_stays, edit_fails, edit_keeps, edit_leaves, edit_reads, of_one_state}
-use Rattle.device_commands.proofs.OpenFaults.{change_edits, change_tells, change_unwritten, not_edited}
+use Rattle.device_commands.proofs.OpenFaults.{change_tells, change_unwritten, not_edited}
 use Rattle.device_commands.proofs.editing.edit.Goals as goal
 
 pub returns-in-Ok : goal.returns-in-Ok
@@ -41,7 +41,7 @@ returns-in-Ok g c =
           (λ is. edit_reads c.args.disk c.into_disk.result c.in-Ok.store done (by.settled.threadless is) c.into_disk.ensures (opened.of_model model).reads);
       tells = λ model. IfErr-weaker answer _ _ (λ fault is. change_tells fault disk.content is) by.faults;
       device = λ is. edit_fails c.args.disk c.into_disk.result c.in-Ok.store done c.into_disk.ensures opened.ran.no_fewer (by.settled.device is);
-      faults = IfErr-weaker answer _ _ change_edits by.faults;
+      faults = IfErr-weaker answer _ _ (λ fault is. inr is) by.faults;
       ran = subst (λ d. IsSameDevice disk (g.D.Disk.view d)) (sym c.into_disk.ensures) (ran_on disk (view_of c.in-Ok.store) (view_of done) opened.ran by.settled.ran);
     }
 
