@@ -2,7 +2,7 @@
 use Rattle.std.proofs.Common.{◌≡◌, ◌≢◌, ◌∙◌, ◌<◌, ◌⊎◌, ap, inl, inr, refl, subst, sym, ⊎_elim, ℕ, List, [], ◌∷◌, ◌++◌, Option, Result, Ok, Err, IfErr, IfOk, IsErrAnd, IsErrOf, IsTrue, OnOk, length}
 use Rattle.std.proofs.lemmas.List.{append-nil, append_assoc}
 use Rattle.std.proofs.lemmas.List.Elements.{All-cons, All-nil}
-use Rattle.std.proofs.lemmas.Result.{IfErr-at_err}
+use Rattle.std.proofs.lemmas.Result.{IfErr-at_err, IfErr-weaker, IfOk-weaker}
 use Rattle.std.specs.Prelude.{IsOkAnd}
 use Rattle.std.specs.Global.{Vec}
 use Rattle.std.specs.Io.KnownBytes.{Appends}
@@ -132,8 +132,7 @@ check_printed r answer asked disk left old new by printed =
 -- of an answer's fault and the output's
 pub told_of : {X : Type 0} (r : Result Ended Fault) (answer : Result X Fault) (P : Fault → Type 0) → IfErr r (λ fault. (fault ≡ told.Output) ⊎ IsErrOf answer fault) → IfErr answer P
     → IfErr r (λ fault. (fault ≡ told.Output) ⊎ P fault)
-told_of (Ok ended) answer P ends has = tt
-told_of (Err fault) answer P ends has = ⊎_elim inl (λ is. inr (IfErr-at_err P is has)) ends
+told_of r answer P ends has = IfErr-weaker r _ _ (λ fault why. ⊎_elim inl (λ is. inr (IfErr-at_err P is has)) why) ends
 
 -- a device that was read
 pub reading_end : {X : Type 0} (answer : Result X Fault) (Named : Fault → Type 0) (disk left : DiskView) → IfErr answer Named → IsReading disk left answer → IfErr answer (λ fault. IsReadingEnd Named disk left fault)
@@ -240,28 +239,13 @@ closed opened events old mid new path access disk left was first second = record
 -- a task that ends so on the device that was opened ends so on the device by its path
 pub ends_at : {D W : Type 0} (model : Ghosts D) (done : Doing D) (put : List Put → Type 0) (task : Task) (path : List ℕ) (access : Access) (out : Stream W) (disk left : D) (r : Result Ended Fault)
     → path ≡ device_of task → access ≡ access_of task → done (Opened path access disk ∷ Closed left ∷ []) → EndsTaskOn put task (views (model.view disk) (model.view left)) out r → EndsAt (device_use model done) put task out r
-ends_at model done put task path access out disk left (Ok ended) here so did is = record {
-  printed = record {
-    disk = disk;
-    left = left;
-    did = subst (λ (a : Access). done (Opened (device_of task) a disk ∷ Closed left ∷ [])) so (subst (λ (p : List ℕ). done (Opened p access disk ∷ Closed left ∷ [])) here did);
-    ran = is.ran;
-    holds = (is.leaves, is.ends.printed);
-  };
-  fault = tt;
-  untouched = tt;
-}
-ends_at model done put task path access out disk left (Err fault) here so did is = record {
-  printed = tt;
-  fault = inr (record {
-    disk = disk;
-    left = left;
-    did = subst (λ (a : Access). done (Opened (device_of task) a disk ∷ Closed left ∷ [])) so (subst (λ (p : List ℕ). done (Opened p access disk ∷ Closed left ∷ [])) here did);
-    ran = is.ran;
-    holds = (is.leaves, is.ends.fault);
-  });
-  untouched = is.ends.untouched;
-}
+ends_at model done put task path access out disk left r here so did is =
+    let there = subst (λ (a : Access). done (Opened (device_of task) a disk ∷ Closed left ∷ [])) so (subst (λ (p : List ℕ). done (Opened p access disk ∷ Closed left ∷ [])) here did) in
+    record {
+      printed = IfOk-weaker r _ _ (λ ended holds. record { disk = disk; left = left; did = there; ran = is.ran; holds = (is.leaves, holds) }) is.ends.printed;
+      fault = IfErr-weaker r _ _ (λ fault holds. inr (record { disk = disk; left = left; did = there; ran = is.ran; holds = (is.leaves, holds) })) is.ends.fault;
+      untouched = is.ends.untouched;
+    }
 
 -- and one whose device can't be had tells that
 pub ends_early : {D W : Type 0} (model : Ghosts D) (done : Doing D) (put : List Put → Type 0) (task : Task) (path : List ℕ) (access : Access) (contents : W → Known) (old : W) (r : Result Ended Fault) (fault : Fault)
@@ -317,14 +301,9 @@ both opened events e₀ e₁ e₂ e₃ e₄ from_path to_path from to from_left 
 pub transferred_at : {D W : Type 0} (model : Ghosts D) (done : Doing D) (transfer : Transfer) (from_path to_path : List ℕ) (out : Stream W) (from to from_left to_left : D) (r : Result Ended Fault)
     → done (Opened from_path ToRead from ∷ Opened to_path New to ∷ Closed from_left ∷ Closed to_left ∷ []) → EndsTransferOn transfer (views (model.view from) (model.view from_left)) (views (model.view to) (model.view to_left)) out r
     → EndsTransferAt (device_use model done) transfer from_path to_path out r
-transferred_at model done transfer from_path to_path out from to from_left to_left (Ok ended) did is = record {
-  printed = record { from = from; to = to; from_left = from_left; to_left = to_left; did = did; ran = is.ran; holds = (is.leaves, is.ends.printed) };
-  fault = tt;
-  untouched = tt;
-}
-transferred_at model done transfer from_path to_path out from to from_left to_left (Err fault) did is = record {
-  printed = tt;
-  fault = inr (record { from = from; to = to; from_left = from_left; to_left = to_left; did = did; ran = is.ran; holds = (is.leaves, is.ends.fault) });
+transferred_at model done transfer from_path to_path out from to from_left to_left r did is = record {
+  printed = IfOk-weaker r _ _ (λ ended holds. record { from = from; to = to; from_left = from_left; to_left = to_left; did = did; ran = is.ran; holds = (is.leaves, holds) }) is.ends.printed;
+  fault = IfErr-weaker r _ _ (λ fault holds. inr (record { from = from; to = to; from_left = from_left; to_left = to_left; did = did; ran = is.ran; holds = (is.leaves, holds) })) is.ends.fault;
   untouched = is.ends.untouched;
 }
 

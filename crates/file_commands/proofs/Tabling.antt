@@ -1,6 +1,6 @@
 -- Tables that are put: what was answered and why it ended, of a scheme and of a device.
 use Rattle.std.proofs.Common.{◌≡◌, ◌⊎◌, inl, inr, sym, subst, ⊎_elim, ℕ, List, [], Result, Ok, Err, IfErr, IfOk, IsErrOf}
-use Rattle.std.proofs.lemmas.Result.{IfErr-at_err}
+use Rattle.std.proofs.lemmas.Result.{IfErr-at_err, IfErr-weaker}
 use Rattle.std.specs.Prelude.{IsOkAnd}
 use Rattle.disk_trait.specs.Disk.{DiskView}
 use Rattle.schemes.specs.declared.parts.Parts.{Parts}
@@ -13,7 +13,6 @@ use Rattle.file_commands.specs.Printed.{PrintsTables}
 use Rattle.file_commands.specs.Queries.{AnswersOf, IsSchemeIn}
 use Rattle.file_commands.specs.Runs.{EndsPutFound}
 use Rattle.file_commands.specs.Uses.{Stream}
-use Rattle.file_commands.proofs.Faults.{each_fault}
 use Rattle.file_commands.proofs.OnDevices.{asking_end}
 use Rattle.table_files.specs.Files.{Put}
 use Rattle.table_files.specs.Tables.{AnswersTables, EndsPutAsked, EndsPutting}
@@ -25,7 +24,7 @@ pub found_put : {W : Type 0} (answer : Result (ℕ × Parts) Fault) (found : ℕ
     → EndsPutAsked found.1 folder named put out.known out.old out.new r → EndsPutFound answer folder named put out r
 found_put answer found folder named put out r is ends =
     subst (λ (a : Result (ℕ × Parts) Fault). EndsPutFound a folder named put out r) (sym is)
-    (record { printed = ends.printed; fault = each_fault r (λ fault. EndsPutting found.1 folder named put fault) _ (λ fault why. inr why) ends.fault; untouched = ends.untouched })
+    (record { printed = ends.printed; fault = IfErr-weaker r _ _ (λ fault why. inr why) ends.fault; untouched = ends.untouched })
 
 -- ---- on a device
 

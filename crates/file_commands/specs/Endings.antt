@@ -112,16 +112,24 @@ pub record IsEditEnd (session : ℕ) (ticket : Option ℕ) (change : List Op) (d
   -- unless the device failed, it stands for what it stood for, whatever a crash leaves from then on
   pub kept : OfContent disk (λ state. KeepsThrough disk state → fault ≢ told.Device → KeepsThrough left state)
 
--- the faults of a check of a device: the words are not understood only where they name nodes
+-- the faults of landmark words for a graph, and of a scheme or a check of it under them
+abbrev pub IsWordsFault : LandmarkWords → Fault → Type 0
+IsWordsFault words told.Words = NamesNodes words
+IsWordsFault words told.Memory = Unit {0}
+IsWordsFault words fault = ⊥
+
+-- and of routes between pairs of nodes
+abbrev pub IsRouteFault : LandmarkWords → Fault → Type 0
+IsRouteFault words told.NoNode = Unit {0}
+IsRouteFault words fault = IsWordsFault words fault
+
+-- the faults of a check of a device, or of its tables: those of the opening, and those of the words
 abbrev pub IsCheckDeviceFault : LandmarkWords → Fault → Type 0
-IsCheckDeviceFault words told.Words = NamesNodes words
-IsCheckDeviceFault words fault = IsOpenFault fault
+IsCheckDeviceFault words fault = IsOpenFault fault ⊎ IsWordsFault words fault
 
 -- and of routes on one
 abbrev pub IsRouteDeviceFault : LandmarkWords → Fault → Type 0
-IsRouteDeviceFault words told.NoNode = Unit {0}
-IsRouteDeviceFault words told.Words = NamesNodes words
-IsRouteDeviceFault words fault = IsOpenFault fault
+IsRouteDeviceFault words fault = IsOpenFault fault ⊎ IsRouteFault words fault
 
 -- A question about a device's graph isn't answered: the words aren't understood only where they name a node that the state hasn't.
 pub record IsAskingEnd (Named : LandmarkWords → Fault → Type 0) (asked : LandmarkWords) (disk left : DiskView) (fault : Fault) : Type 0 where
@@ -175,19 +183,6 @@ abbrev pub EndsTransfer : {D : Type 0} → Ghosts D → Doing D → Transfer →
 EndsTransfer model done transfer old new fault =
     ((done (NotHad old ToRead ∷ []) ⊎ OfFirst done old new) × IsFileFault fault)
     ⊎ OfTwo model done old new (λ from from_left to to_left. LeavesTwo transfer from from_left to to_left × ((fault ≡ told.Output) ⊎ IsTransferEnd transfer from from_left to to_left fault))
-
--- ---- the parts of these
-
--- the faults of landmark words for a graph, and of a scheme or a check of it under them
-abbrev pub IsWordsFault : LandmarkWords → Fault → Type 0
-IsWordsFault words told.Words = NamesNodes words
-IsWordsFault words told.Memory = Unit {0}
-IsWordsFault words fault = ⊥
-
--- and of routes between pairs of nodes
-abbrev pub IsRouteFault : LandmarkWords → Fault → Type 0
-IsRouteFault words told.NoNode = Unit {0}
-IsRouteFault words fault = IsWordsFault words fault
 
 -- ---- why a task ends
 

@@ -151,10 +151,7 @@ fn ended_after(routes: &[Route]) -> Ended
 fn is_along(route: &Route) -> bool
     ensures { result ≡ is_along route.now }
 {
-    match route {
-        Route::Along(_) => true,
-        Route::Unreachable => false,
-    }
+    matches!(route, Route::Along(_))
 }
 
 fn print_route<O: Write>(out: &mut O, generation: u64, route: &Route) -> Result<(), Fault>

@@ -1,10 +1,10 @@
-use Rattle.std.proofs.Common.{rules, subst}
+use Rattle.std.proofs.Common.{inl, inr, rules, subst}
 use Rattle.graph_edits.specs.Edges.{Network}
 use Rattle.table_files.specs.Files.{PutBy}
 use Rattle.file_commands.specs.Endings.{IsCheckDeviceFault, IsWordsFault}
 use Rattle.file_commands.specs.Queries.{AnswersIn, IsSchemeIn}
 use Rattle.file_commands.specs.SchemeAnswers.{IsSchemeBy}
-use Rattle.file_commands.proofs.Faults.{check_asks, check_opens, words_tell}
+use Rattle.file_commands.proofs.Faults.{words_tell}
 use Rattle.file_commands.proofs.SchemeAnswering.{answers_asked}
 use Rattle.file_commands.proofs.Tabling.{tables_end, tables_printed}
 use Rattle.file_commands.proofs.tables.tables_on.Goals as goal
@@ -20,7 +20,7 @@ returns g c =
     (λ state found gives.
     let said : AnswersIn gives.0.now asked (IsSchemeBy gives.0.now state.count asked) (IsWordsFault asked) found = search (rules, gives.1) in
     subst (λ (m : Network). AnswersIn m asked (IsSchemeBy m state.count asked) (IsWordsFault asked) found) gives.2 said)
-    (words_tell asked) (λ never. never) (check_asks asked) (check_opens asked) in
+    (words_tell asked) (λ never. never) (λ fault is. inr is) (λ fault is. inl is) in
     record {
       ran = by.reading.ran;
       leaves = by.reading.reads;
