@@ -1,21 +1,13 @@
--- Edges, a row more at a time.
-use Rattle.std.proofs.Common.{◌≡◌, ◌<◌, ◌+◌, ◌∙◌, ap, sym, subst, ℕ, List, [], ◌∷◌, ◌++◌, Some, map, length, take, drop, get_or}
-use Rattle.std.specs.Prelude.{IfNone, IfSome, None, OnSome, Option}
-use Rattle.std.specs.List.{AllZip}
-use Rattle.std.specs.Option.{option_map}
-use Rattle.std.proofs.lemmas.Option.{slice_get-get_or, slice_get-map}
-use Rattle.std.proofs.lemmas.List.{drop_more, map-append, map_push, take-append-drop, take-map, take_more}
-use Rattle.edge_lists.specs.Edges.{IsFirstOdd}
-
--- what a clause says where something was found, or nothing was
-pub at_some : {A : Type 0} (P : A → Type 0) {o : Option A} {x : A} → o ≡ Some x → IfSome o P → P x
-at_some P is so = subst (λ o. IfSome o P) is so
-
-pub on_some : {A P : Type 0} {o : Option A} {x : A} → o ≡ Some x → OnSome o P → P
-on_some {P} is so = subst (λ o. OnSome o P) is so
-
-pub on_none : {A P : Type 0} {o : Option A} → o ≡ None → IfNone o P → P
-on_none {P} is so = subst (λ o. IfNone o P) is so
+-- Lists with one more, and rows whose names are taken.
+use Rattle.std.proofs.Common.{◌≡◌, ◌<◌, ◌+◌, ◌∙◌, ◌⊎◌, inl, inr, sym, ap, refl, ℕ, List, [], ◌∷◌, ◌++◌, map, length, take, drop, get_or, append_assoc}
+use Rattle.std.specs.Prelude.{OnErr, Result, Ok, Err}
+use Rattle.std.specs.List.{AllZip, fold}
+use Rattle.std.proofs.lemmas.List.{drop_more, map-append, take-append-drop}
+use Rattle.std.proofs.lemmas.List.Concat.{flat_map-append}
+use Rattle.std.proofs.lemmas.List.Sums.{fold-append}
+use Rattle.edge_rows.specs.declared.row.Row.{Row}
+use Rattle.edge_rows.specs.Rows.{Said, row_of}
+use Rattle.edge_lists.specs.NameLists.{AreBegun, Names, ends_of, with_name}
 
 -- two lists, each with one more
 pub zip_push : {A B : Type 0} (R : A → B → Type 0) (xs : List A) (ys : List B) (x : A) (y : B) → AllZip R xs ys → R x y → AllZip R (xs ++ x ∷ []) (ys ++ y ∷ [])
@@ -24,25 +16,34 @@ zip_push R [] (b ∷ bs) x y all one = absurd all
 zip_push R (a ∷ more) [] x y all one = absurd all
 zip_push R (a ∷ more) (b ∷ bs) x y all one = (all.0, zip_push R more bs x y all.1 one)
 
--- the front of a list with the element at a place
-pub front_more : {A C : Type 0} (f : A → C) (xs : List A) (i : ℕ) (x : A) → i < length xs → x ≡ get_or xs i x → map f (take (i + 1) xs) ≡ map f (take i xs) ++ f x ∷ []
-front_more f xs i x lt is = ap (map f) (take_more xs i x lt) ∙ map_push f (take i xs) (get_or xs i x) ∙ ap (λ y. map f (take i xs) ++ f y ∷ []) (sym is)
-
--- the element at a place, behind the front of a list
-module _ {A B C : Type 0} (f : A → C) (xs : List A) (i : ℕ) (x : A) (ys : List B) (lt : i < length xs) (is : x ≡ get_or xs i x) where
-  pub zip_more : (R : C → B → Type 0) (y : B) → AllZip R (map f (take i xs)) ys → R (f x) y → AllZip R (map f (take (i + 1) xs)) (ys ++ y ∷ [])
-  zip_more R y all one =
-      subst (λ l. AllZip R l (ys ++ y ∷ [])) (sym (front_more f xs i x lt is)) (zip_push R (map f (take i xs)) ys (f x) y all one)
-
-  pub first_odd : (Are : List C → List B → Type 0) (IsOdd : C → Type 0) → Are (map f (take i xs)) ys → IsOdd (f x) → IsFirstOdd Are IsOdd (map f xs) i
-  first_odd Are IsOdd before odd = record {
-    others = ys;
-    before = subst (λ l. Are l ys) (sym (take-map f i xs)) before;
-    one = f x;
-    at = slice_get-map f xs i ∙ ap (option_map f) (slice_get-get_or xs i x lt) ∙ ap (λ y. Some (f y)) (sym is);
-    odd = odd;
-  }
-
 -- a list by what stands in front of an element, and behind it
 pub map_around : {A B : Type 0} (f : A → B) (xs : List A) (i : ℕ) (d : A) → i < length xs → map f xs ≡ map f (take i xs) ++ f (get_or xs i d) ∷ map f (drop (i + 1) xs)
 map_around f xs i d lt = ap (map f) (sym (take-append-drop i xs)) ∙ map-append f (take i xs) (drop i xs) ∙ ap (λ l. map f (take i xs) ++ map f l) (drop_more xs i d lt)
+
+-- names with those of some first rows, and then with ends of the next
+module _ (old now new : Names) (rows : List Row) (i : ℕ) (row : Row) (lt : i < length rows) (at : row ≡ get_or rows i row) (is : now ≡ fold with_name old (ends_of (map row_of (take i rows)))) where
+  begun : (words behind : List (List ℕ)) → ends_of (row_of row ∷ []) ≡ words ++ behind → new ≡ fold with_name now words → AreBegun old (map row_of rows) new
+  begun words behind both grows =
+      let front = map row_of (take i rows) in
+      let back = map row_of (drop (i + 1) rows) in
+      record {
+        words = ends_of front ++ words;
+        behind = behind ++ ends_of back;
+        parts = ap ends_of (map_around row_of rows i row lt ∙ ap (λ (r : Row). front ++ row_of r ∷ back) (sym at)) ∙ flat_map-append (λ (r : Said). r.a ∷ r.b ∷ []) front (row_of row ∷ back)
+            ∙ ap (λ (l : List (List ℕ)). ends_of front ++ (l ++ ends_of back)) both ∙ apart (ends_of front) words behind (ends_of back);
+        names = grows ∙ ap (λ (l : Names). fold with_name l words) is ∙ sym (fold-append with_name old (ends_of front) words);
+      } where
+        apart : (a b c d : List (List ℕ)) → a ++ ((b ++ c) ++ d) ≡ (a ++ b) ++ (c ++ d)
+        apart a b c d = simp append_assoc
+
+  pub after_end : (new ≡ now) ⊎ (new ≡ with_name now (row_of row).a) → AreBegun old (map row_of rows) new
+  after_end (inl same) = begun [] ((row_of row).a ∷ (row_of row).b ∷ []) refl same
+  after_end (inr one) = begun ((row_of row).a ∷ []) ((row_of row).b ∷ []) refl one
+
+  pub after_edge : new ≡ with_name (with_name now (row_of row).a) (row_of row).b → AreBegun old (map row_of rows) new
+  after_edge both = begun ((row_of row).a ∷ (row_of row).b ∷ []) [] refl both
+
+-- what holds in any case holds after an error
+pub in_any_case : {T E P : Type 0} (r : Result T E) → P → OnErr r P
+in_any_case (Ok x) p = tt
+in_any_case (Err e) p = p

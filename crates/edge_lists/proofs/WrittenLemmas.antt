@@ -2,6 +2,7 @@
 use Rattle.std.proofs.Common.{arith, ◌≡◌, ◌≢◌, ◌==◌, ◌≤◌, ◌<◌, ◌+◌, ◌-◌, ◌^◌, ◌∙◌, ◌&&◌, not, sym, ap, ap₂, subst, refl, ℕ, zero, suc, List, [], ◌∷◌, ◌++◌, Bool, true, false, cond, map, length, drop, get_or, Option, Some, None, append_assoc, codes, decimal, Bor}
 use Rattle.std.specs.Prelude.{All, Ok, Err, unwrap_or}
 use Rattle.std.specs.Char.{is_ascii_whitespace}
+use Rattle.std.specs.Option.{option_map_or}
 use Rattle.std.specs.List.{flat_map, list_any, slice_get, slice_split}
 use Rattle.std.proofs.Math.Seq.{drop-append_seam}
 use Rattle.std.proofs.lemmas.Bool.{both_ways, ne_eqb}
@@ -17,20 +18,15 @@ use Rattle.std.proofs.lemmas.Str.Parse.{digit_at}
 use Rattle.value_syntax.specs.Scripts.{lines_of, without_empty_last}
 use Rattle.value_syntax.proofs.Written.{empty_goes}
 use Rattle.edge_lists.specs.declared.edge.Edge.{Edge}
-use Rattle.edge_lists.specs.declared.names.NameForm.{NameForm}
-use Rattle.edge_lists.specs.declared.names.NameForm.TheVariants.{NoName, Twice, TooMany}
-use Rattle.edge_lists.specs.declared.names.NameRefused.{NameRefused}
-use Rattle.edge_lists.specs.NameLists.{AreNames, IsFirstNoName, IsNoName, IsNumberOf}
 use Rattle.edge_lists.specs.Linked.{below}
-use Rattle.edge_lists.specs.Written.{AreListed, AreRead, FitTypes, IsList, IsOneLine, edge_line, edges_text, head_lines, head_words, label_of, labels_of, names_text, remark, said_of}
+use Rattle.edge_lists.specs.Written.{FitTypes, IsList, IsOneLine, edge_line, edges_text, head_lines, head_words, label_of, labels_of, names_text, remark, said_of}
 use Rattle.edge_rows.specs.declared.forms.Heading.TheVariants.{ByWords}
 use Rattle.edge_rows.specs.declared.forms.Writing.{Writing}
 use Rattle.edge_rows.specs.declared.forms.Writing.TheVariants.{Edges}
 use Rattle.edge_rows.specs.Labels.{AreLabels, IsLabel, begins, begins_mark, is_blank_at, is_name, separates}
 use Rattle.edge_rows.specs.Records.{comma_fields, has_comma}
-use Rattle.edge_rows.specs.Rows.{Said, SaysEdges, alone, begins_as_name, counted, each_of, fields_of, head_count, heads_ends, in_front, is_head, is_heading, lead, line_says, names_said, nodes_said, parts_at, remarked, remarks, row_by, row_said, says_nothing, unless_empty, with_first, with_item, words_of}
-use Rattle.edge_rows.proofs.WeightLemmas.{weight_read}
-use Rattle.edge_lists.proofs.NameLemmas.{number_of_seam, number_stays, place_among}
+use Rattle.edge_rows.specs.Rows.{Said, after_each, begins_as_name, counted, fields_of, head_count, heads_ends, is_head, is_heading, lead, names_said, nodes_said, parts_at, remarked, remarks, row_by, row_said, says_nothing, text_says, then_by, unless_empty, with_first, with_line, words_of}
+use Rattle.edge_rows.proofs.WeightLemmas.{number_read}
 
 -- how a list is read that was written
 abbrev listed : Writing
@@ -50,49 +46,6 @@ split_feeds (x ∷ xs) all =
 -- lines, each with its feed
 pub lines_of_feeds : (xs : List (List ℕ)) → All IsOneLine xs → lines_of (flat_map (λ x. x ++ 10 ∷ []) xs) ≡ xs
 lines_of_feeds xs all = ap without_empty_last (split_feeds xs all) ∙ empty_goes xs [] refl
-
--- ---- names
-
--- no line of names is refused
-none_refused : (most : ℕ) (names : List (List ℕ)) → AreNames most names → (refused : NameRefused) → IsFirstNoName most names refused → ⊥
-none_refused most names are refused first = by refused.form first.form where
-  at : IsNumberOf names first.line (length first.names)
-  at = subst (λ (l : List (List ℕ)). IsNumberOf l first.line (length first.names)) (sym first.parts) (number_of_seam first.names first.behind first.line)
-
-  lt : length first.names < length names
-  lt = slice_get_within names (length first.names) first.line at
-
-  by : (form : NameForm) → IsNoName most first.names first.line form → ⊥
-  by NoName why =
-      let there = get_or_from_slice_get names (length first.names) first.line first.line at in
-      both_ways (is_name first.line) why (ap is_name (sym there) ∙ are.each (length first.names) first.line lt)
-  by Twice why =
-      let place = place_among first.names first.line why.1 in
-      let front = subst (λ (l : List (List ℕ)). IsNumberOf l first.line place.0) (sym first.parts) (number_stays first.names (first.line ∷ first.behind) first.line place.0 place.1) in
-      let same : place.0 ≡ length first.names = are.once place.0 (length first.names) first.line front at in
-      let below : place.0 < length first.names = slice_get_within first.names place.0 first.line place.1 in
-      absurd (omega (arith, same, below))
-  by TooMany why = absurd (omega (arith, why.2, lt, are.few))
-
--- what is written of names lists them
-pub listed_names : (most : ℕ) (text : List ℕ) (names : List (List ℕ)) → text ≡ names_text names → AreNames most names → All IsOneLine names → AreListed most text names
-listed_names most text names is are plain =
-    let lines : lines_of text ≡ names = ap lines_of is ∙ lines_of_feeds names plain in
-    record {
-      lines = lines;
-      listed = are;
-      none = λ refused first. none_refused most names are refused (subst (λ (l : List (List ℕ)). IsFirstNoName most l refused) lines first);
-    }
-
--- ---- what a text says, it says alone
-
--- what a text says is read, and nothing else
-read_alone : (text : List ℕ) (said : List Said) → SaysEdges listed text said → AreRead text said
-read_alone text said says = record {
-  says = says;
-  only = λ other is. let same : Ok other ≡ Ok said = sym is ∙ says in cc;
-  none = λ n refused. let bad : Err n ≡ Ok said = sym refused ∙ says in cc;
-}
 
 -- ---- words
 
@@ -246,21 +199,23 @@ module _ (names : List (List ℕ)) (all : All IsLabel names) (edge : Edge) (fit 
   abbrev one : ℕ → Said
   one n = record { line = n; a = a; b = b; weight = edge.weight }
 
-  line_row : (n : ℕ) → line_says listed n line ≡ Some (one n ∷ [])
-  line_row n =
-      ap (λ (t : Bool). cond t (Some []) (alone (row_said None n (fields_of listed line)))) line_some ∙ ap (λ l. alone (row_said None n l)) line_fields
-      ∙ ap (λ o. alone (row_by n a b o)) (weight_read w edge.weight refl (omega (arith, fit.weight)))
-      ∙ ap (λ (t : Bool). alone (cond (t && is_name b) (Some (one n)) None)) is_a.name ∙ ap (λ (t : Bool). alone (cond t (Some (one n)) None)) is_b.name
+  line_row : (n : ℕ) (said : List Said) → with_line listed n line said ≡ Ok (said ++ one n ∷ [])
+  line_row n said =
+      let behind = λ (row : Option Said). option_map_or (λ row. Ok (said ++ row ∷ [])) row (Err n) in
+      ap (λ (t : Bool). cond t (Ok said) (behind (row_said None n (fields_of listed line)))) line_some ∙ ap (λ l. behind (row_said None n l)) line_fields
+      ∙ ap (λ o. behind (row_by n a b o)) (number_read 4294967295 w edge.weight refl (omega (arith, fit.weight)) (omega arith))
+      ∙ ap (λ (t : Bool). behind (cond (t && is_name b) (Some (one n)) None)) is_a.name ∙ ap (λ (t : Bool). behind (cond t (Some (one n)) None)) is_b.name
 
 -- ---- lines of edges
 
 module _ (names : List (List ℕ)) (all : All IsLabel names) where
-  edges_said : (before : ℕ) (edges : List Edge) → All FitTypes edges → each_of (line_says listed) (before + 1) (map (edge_line names) edges) ≡ Ok (said_of names before edges)
-  edges_said before [] fit = refl
-  edges_said before (edge ∷ edges) fit =
+  edges_said : (before : ℕ) (edges : List Edge) (said : List Said) → All FitTypes edges → after_each (with_line listed) (before + 1) (map (edge_line names) edges) said ≡ Ok (said ++ said_of names before edges)
+  edges_said before [] said fit = ap (λ (l : List Said). Ok l) (sym (append-nil said))
+  edges_said before (edge ∷ edges) said fit =
       let here = All-head FitTypes edge edges fit in
-      ap (λ o. with_item o (before + 1) (each_of (line_says listed) (before + 1 + 1) (map (edge_line names) edges))) (line_row names all edge here (before + 1))
-      ∙ ap (in_front (one names all edge here (before + 1) ∷ [])) (edges_said (before + 1) edges (All-tail FitTypes edge edges fit))
+      let row = one names all edge here (before + 1) in
+      ap (then_by (after_each (with_line listed) (before + 1 + 1) (map (edge_line names) edges))) (line_row names all edge here (before + 1) said)
+      ∙ edges_said (before + 1) edges (said ++ row ∷ []) (All-tail FitTypes edge edges fit) ∙ ap (λ (l : List Said). Ok l) (append_assoc said (row ∷ []) (said_of names (before + 1) edges))
 
   no_lead : (edges : List Edge) → All FitTypes edges → lead listed (map (edge_line names) edges) ≡ 0
   no_lead [] fit = refl
@@ -341,11 +296,11 @@ list_read names nodes edges text is all fit small =
     ap lines_of whole ∙ lines_of_feeds (head ++ rest) (All-append IsOneLine head rest (remarks_one_line (head_words names nodes) words) (one_lines names all edges fit)) in
     let front : lead listed (lines_of text) ≡ length head = omega (arith, ap (lead listed) lines, lead_behind (head_words names nodes) rest words, no_lead names all edges fit) in
     let left : drop (lead listed (lines_of text)) (lines_of text) ≡ rest = ap (λ (n : ℕ). drop n (lines_of text)) front ∙ ap (λ (l : List (List ℕ)). drop (length head) l) lines ∙ drop-append_seam head rest in
-    let says : SaysEdges listed text said =
-    ap₂ (λ (n : ℕ) (l : List (List ℕ)). each_of (line_says listed) (n + 1) l) front left ∙ edges_said names all (length head) edges fit in
+    let says : text_says listed text ≡ Ok said =
+    ap₂ (λ (n : ℕ) (l : List (List ℕ)). after_each (with_line listed) (n + 1) l []) front left ∙ edges_said names all (length head) edges [] fit in
     record {
       written = is;
-      read = read_alone text said says;
+      read = says;
       counted = ap (nodes_said listed) lines ∙ head_counted nodes small;
       called = ap (names_said listed) lines ∙ remarks_front (labels_of names nodes) rest
           ∙ ap (λ (l : List (List ℕ)). labels_of names nodes ++ l) (no_remarks names all edges fit) ∙ append-nil (labels_of names nodes);

@@ -1,14 +1,12 @@
 -- Lists as they are written, and what is read of them.
-use Rattle.std.specs.Prelude.{◌≡◌, ◌==◌, ◌<◌, ◌+◌, ◌*◌, ◌^◌, ℕ, List, [], ◌∷◌, ◌++◌, None, Some, false, All, codes, decimal, length, map, unwrap_or}
+use Rattle.std.specs.Prelude.{◌≡◌, ◌==◌, ◌<◌, ◌+◌, ◌*◌, ◌^◌, ℕ, List, [], ◌∷◌, ◌++◌, None, Some, Ok, false, All, codes, decimal, length, map, unwrap_or}
 use Rattle.std.specs.List.{flat_map, slice_get}
 use Rattle.value_syntax.specs.Scripts.{lines_of}
 use Rattle.edge_lists.specs.declared.edge.Edge.{Edge}
-use Rattle.edge_lists.specs.declared.names.NameRefused.{NameRefused}
-use Rattle.edge_lists.specs.NameLists.{AreNames, IsFirstNoName}
 use Rattle.edge_rows.specs.declared.forms.Heading.TheVariants.{ByWords}
 use Rattle.edge_rows.specs.declared.forms.Writing.TheVariants.{Edges}
 use Rattle.edge_lists.specs.Linked.{below}
-use Rattle.edge_rows.specs.Rows.{IsRefusedAt, Said, SaysEdges, names_said, nodes_said}
+use Rattle.edge_rows.specs.Rows.{Said, names_said, nodes_said, text_says}
 
 -- ---- names
 
@@ -19,12 +17,6 @@ names_text names = flat_map (λ name. name ++ 10 ∷ []) names
 -- no line feed stands in the name
 abbrev pub IsOneLine : List ℕ → Type 0
 IsOneLine name = All (λ b. (b == 10) ≡ false) name
-
--- the text lists these names, and no line of it is refused
-pub record AreListed (most : ℕ) (text : List ℕ) (names : List (List ℕ)) : Type 0 where
-  pub lines : lines_of text ≡ names
-  pub listed : AreNames most names
-  pub none : (refused : NameRefused) → IsFirstNoName most (lines_of text) refused → ⊥
 
 -- ---- edges
 
@@ -87,15 +79,9 @@ abbrev pub said_of : List (List ℕ) → ℕ → List Edge → List Said
 said_of names before [] = []
 said_of names before (edge ∷ edges) = record { line = before + 1; a = label_of names edge.a; b = label_of names edge.b; weight = edge.weight } ∷ said_of names (before + 1) edges
 
--- the text says that and nothing else, and no line of it is refused, where a header is known by its words
-pub record AreRead (text : List ℕ) (said : List Said) : Type 0 where
-  pub says : SaysEdges (Edges ByWords None) text said
-  pub only : (other : List Said) → SaysEdges (Edges ByWords None) text other → other ≡ said
-  pub none : (number : ℕ) → IsRefusedAt (Edges ByWords None) text number → ⊥
-
 -- The text of a list: its first lines, and a line for each edge. It is read as these edges, so many nodes, and what they are called.
 pub record IsList (names : List (List ℕ)) (nodes : ℕ) (edges : List Edge) (text : List ℕ) : Type 0 where
   pub written : text ≡ names_text (head_lines names nodes) ++ edges_text names edges
-  pub read : AreRead text (said_of names (length (head_lines names nodes)) edges)
+  pub read : text_says (Edges ByWords None) text ≡ Ok (said_of names (length (head_lines names nodes)) edges)
   pub counted : nodes_said (Edges ByWords None) (lines_of text) ≡ Some (decimal nodes)
   pub called : names_said (Edges ByWords None) (lines_of text) ≡ labels_of names nodes

@@ -1,8 +1,8 @@
 // How nodes are called.
-ghost use Rattle.std.specs.Prelude.{◌≡◌, ◌↔◌, IsTrue};
+ghost use Rattle.std.specs.Prelude.{◌≡◌, ◌↔◌, Err, IsTrue};
 ghost use Rattle.value_syntax.specs.Scripts.{lines_of};
 ghost use Rattle.edge_lists.specs.Called.{IsCalled, SaysNumbers};
-ghost use Rattle.edge_lists.specs.NameLists.{IsFirstNoName};
+ghost use Rattle.edge_lists.specs.NameLists.{names_listed};
 ghost use Rattle.edge_rows.specs.Reading.{IfAccepted, IfRefused};
 
 use crate::names::{NameRefused, Names};
@@ -29,7 +29,7 @@ fn says_numbers(text: &str) -> bool
 /// How the text beside a device calls its nodes, of which it may name `most`. Or the first line that is no name.
 pub fn read_called<'a>(alloc: Global, text: &'a str, most: u16) -> Judged<Called<'a>, NameRefused>
     ensures called { IfAccepted result (λ called. IsCalled most text.entry.now called) }
-    ensures refused { IfRefused result (λ refused. IsFirstNoName most (lines_of text.entry.now) refused) }
+    ensures refused { IfRefused result (λ refused. names_listed most (lines_of text.entry.now) ≡ Err refused) }
 {
     if says_numbers(text) {
         return Ok(Ok(Called::Numbers));

@@ -1,9 +1,8 @@
 // Edges between nodes that have numbers.
-ghost use Rattle.std.specs.Prelude.{◌≡◌, ℕ, map};
+ghost use Rattle.std.specs.Prelude.{◌≡◌, IfOk, map};
 ghost use Rattle.std.specs.List.{list_all};
-ghost use Rattle.value_syntax.specs.Reading.{IfRead};
-ghost use Rattle.edge_lists.specs.Edges.{AreNumbered, IsFirstOther, IsNotNumbered, IsNumber, IsNumbered, calls_numbers};
-ghost use Rattle.edge_rows.specs.Reading.{IfAccepted, IfNoneRead, IfRefused};
+ghost use Rattle.edge_lists.specs.Edges.{calls_numbers, edge_said, edges_said, node_said};
+ghost use Rattle.edge_rows.specs.Reading.{Answers};
 ghost use Rattle.edge_rows.specs.Rows.{row_of};
 
 use edge_rows::{Judged, Row, Tried, are_digits};
@@ -21,20 +20,22 @@ pub struct Edge {
 }
 
 /// The number up to `last` that a word is, where the first number is written as `first`.
+#[tactic(auto, using(edge_rows::proofs::WeightLemmas::number_read, edge_rows::proofs::WeightLemmas::none_read))]
 pub fn node_in(alloc: Global, word: &str, first: u16, last: u16) -> Tried<Option<u16>>
-    ensures found { IfRead result (λ number. IsNumber first last word.now number) }
-    ensures none { IfNoneRead result ((number : ℕ) → IsNumber first last word.now number → ⊥) }
+    ensures { IfOk result (λ node. node ≡ node_said first last word.now) }
 {
-    match number(alloc, word, first as u64 + last as u64)? {
-        Some(number) if number >= first as u64 => Ok(Some((number - first as u64) as u16)),
-        _ => Ok(None),
+    let Some(number) = number(alloc, word, first as u64 + last as u64)? else {
+        return Ok(None);
+    };
+    if number < first as u64 {
+        return Ok(None);
     }
+    Ok(Some((number - first as u64) as u16))
 }
 
 // The edge of a row whose ends are such numbers.
 fn edge_in(alloc: Global, row: &Row, first: u16, last: u16) -> Tried<Option<Edge>>
-    ensures found { IfRead result (λ edge. IsNumbered first last (row_of row.now) edge) }
-    ensures none { IfNoneRead result (IsNotNumbered first last (row_of row.now)) }
+    ensures { IfOk result (λ edge. edge ≡ edge_said first last (row_of row.now)) }
 {
     let Some(a) = node_in(alloc, row.a.as_str(), first, last)? else {
         return Ok(None);
@@ -42,26 +43,21 @@ fn edge_in(alloc: Global, row: &Row, first: u16, last: u16) -> Tried<Option<Edge
     let Some(b) = node_in(alloc, row.b.as_str(), first, last)? else {
         return Ok(None);
     };
-    Ok(Some(Edge {
-        line: row.line,
-        a,
-        b,
-        weight: row.weight,
-    }))
+    let (line, weight) = (row.line, row.weight);
+    Ok(Some(Edge { line, a, b, weight }))
 }
 
 /// The edges of rows whose ends are all plain numbers up to `last`, where the first number is written as `first`. Or the
 /// place of the first row with another end.
 pub fn by_numbers(alloc: Global, rows: &[Row], first: u16, last: u16) -> Judged<Vec<Edge>, usize>
-    ensures found { IfAccepted result (λ edges. AreNumbered first last (map row_of rows.now) edges.items) }
-    ensures refused { IfRefused result (λ place. IsFirstOther first last (map row_of rows.now) place) }
+    ensures { Answers (λ edges. edges.items) result (edges_said first last (map row_of rows.now)) }
 {
     let mut edges = Vec::new(alloc);
     for place in 0..rows.len() {
-        match edge_in(alloc, &rows[place], first, last)? {
-            Some(edge) => edges.push(edge)?,
-            None => return Ok(Err(place)),
-        }
+        let Some(edge) = edge_in(alloc, &rows[place], first, last)? else {
+            return Ok(Err(place));
+        };
+        edges.push(edge)?;
     }
     Ok(Ok(edges))
 }

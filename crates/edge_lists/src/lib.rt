@@ -5,14 +5,14 @@
 //! [`Names::take_rows`] gives names numbers in the order in which they come. Of two arcs [`each_once`] makes one edge. A text that begins with `{` is
 //! node-link JSON, as networkx has it ([`read_links`]).
 //!
-//! What words stand for, what JSON says (`specs/Links`), and what is written, are definitions:
+//! Each answer is a definition's, of what rows or the text say, and so is why a call refuses them:
 //!
-//! | Call | Promises, by |
+//! | Call | Answers |
 //! |---|---|
-//! | [`by_numbers`], [`call_numbers`], [`node_in`] | `AreNumbered`, or `IsFirstOther` |
-//! | [`Names`]: `take_rows`; `read`, `from_lines`; `written` | `AreTaken`, or `IsOneTooMany`; the lines, or `IsFirstNoName`; `AreListed` |
-//! | [`read_called`] | `IsCalled` |
-//! | [`each_once`], [`read_links`] | `AreOnce`, or `IsFirstClash`; `SaysLinks`, or `IsNoNodeLink` |
+//! | [`by_numbers`], [`call_numbers`], [`node_in`] | `edges_said`, or the place of a row; `calls_numbers`; `node_said` |
+//! | [`Names`]: `take_rows`; `read`, `from_lines`; `number_of`; `written` | `rows_taken`; `names_listed`; `number_in`; a line for each name |
+//! | [`read_called`] | `IsCalled`, or why the lines are no `names_listed` |
+//! | [`each_once`], [`read_links`] | `once_of`; `network_said` |
 //! | [`edge_list`], [`dimacs_text`], [`node_link_text`] | the list is read as just that network (`IsList`), `None` only where a name can't stand in it; the texts |
 #![tactic(auto)]
 

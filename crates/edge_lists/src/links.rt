@@ -1,15 +1,13 @@
 // Node-link JSON, as networkx writes it.
-ghost use Rattle.std.specs.Prelude.{◌≡◌, ◌⊎◌, ◌<◌, ◌^◌, ℕ, IfNone, IfSome, None, Some, codes, map};
+ghost use Rattle.std.specs.Prelude.{◌≡◌, Err, IfOk, Ok, Some, [], map};
 ghost use Rattle.std.specs.List.{list_all};
 ghost use Rattle.std.specs.Option.{option_map};
+ghost use Rattle.std.specs.Result.{result_map_both};
 ghost use Rattle.std.specs.String.{string_bytes};
-ghost use Rattle.serde_json.specs.Find.{get};
-ghost use Rattle.serde_json.specs.Read.{read};
 ghost use Rattle.serde_json.specs.View.{view};
-ghost use Rattle.value_syntax.specs.Reading.{IfRead};
-ghost use Rattle.edge_lists.specs.Links.{AreIds, IsFirstNoLink, IsFirstNoNode, IsLink, IsNoLink, IsNoNetwork, IsNoNodeLink, LinksSay, SaysLinks, begins_object, has_number, items_at, links_of, name_at, weight_in, word_of};
-ghost use Rattle.edge_rows.specs.Reading.{IfAccepted, IfNoneRead, IfRefused};
-ghost use Rattle.edge_rows.specs.Rows.{row_of};
+ghost use Rattle.edge_lists.specs.Links.{IsNoNetwork, begins_object, has_number, items_at, link_says, links_of, name_at, network_in, network_of, network_said, weight_of, with_link, with_node, word_of};
+ghost use Rattle.edge_rows.specs.Reading.{Answers, IfAccepted, IfRefused};
+ghost use Rattle.edge_rows.specs.Rows.{after_each, row_of};
 
 use edge_rows::{Form, Judged, LineRefused, Row, Tried, begins, is_name};
 use serde_json::Value;
@@ -34,10 +32,8 @@ pub struct Links {
 }
 
 // What a node is called by a value.
-#[tactic(auto, using(crate::proofs::LinkLemmas::word_is_text, crate::proofs::LinkLemmas::word_is_number, crate::proofs::LinkLemmas::word_is_none))]
 fn word_of(alloc: Global, value: &Value) -> Tried<Option<String>>
-    ensures word { IfRead result (λ word. word_of (view value.now) ≡ Some (string_bytes word)) }
-    ensures none { IfNoneRead result (word_of (view value.now) ≡ None) }
+    ensures { IfOk result (λ word. option_map string_bytes word ≡ word_of (view value.now)) }
 {
     if let Some(text) = value.as_str() {
         return Ok(Some(String::from_str(alloc, text)?));
@@ -49,10 +45,8 @@ fn word_of(alloc: Global, value: &Value) -> Tried<Option<String>>
 }
 
 // What a node is called at a key, where that is a name.
-#[tactic(auto, using(crate::proofs::LinkLemmas::name_there, crate::proofs::LinkLemmas::name_absent, crate::proofs::LinkLemmas::word_absent, crate::proofs::LinkLemmas::no_name))]
 fn name_at(alloc: Global, value: &Value, key: &str) -> Tried<Option<String>>
-    ensures word { IfRead result (λ word. name_at key.now (view value.now) ≡ Some (string_bytes word)) }
-    ensures none { IfNoneRead result (name_at key.now (view value.now) ≡ None) }
+    ensures { IfOk result (λ name. option_map string_bytes name ≡ name_at key.now (view value.now)) }
 {
     let Some(found) = value.get(key) else {
         return Ok(None);
@@ -67,25 +61,22 @@ fn name_at(alloc: Global, value: &Value, key: &str) -> Tried<Option<String>>
 }
 
 // The weight of a link, where it fits.
-#[tactic(auto, using(crate::proofs::LinkLemmas::weight_absent, crate::proofs::LinkLemmas::weight_there, crate::proofs::LinkLemmas::no_weight, crate::proofs::LinkLemmas::large_weight))]
 fn weight_of(link: &Value) -> Option<u32>
-    ensures weight { IfSome result (λ w. weight_in (get (codes "weight") (view link.now)) ≡ Some w) }
-    ensures none { IfNone result ((w : ℕ) → w < 2 ^ 32 → weight_in (get (codes "weight") (view link.now)) ≡ Some w → ⊥) }
+    ensures { result ≡ weight_of (view link.now) }
 {
     let Some(value) = link.get("weight") else {
         return Some(1);
     };
-    match value.as_u64() {
-        Some(weight) if weight <= 4_294_967_295 => Some(weight as u32),
-        _ => None,
+    let weight = value.as_u64()?;
+    if weight > 4_294_967_295 {
+        return None;
     }
+    Some(weight as u32)
 }
 
 // The row of the link of a number, or what it should have been.
-#[tactic(auto, using(crate::proofs::LinkLemmas::no_source, crate::proofs::LinkLemmas::no_target, crate::proofs::LinkLemmas::unweighted))]
-fn row_in(alloc: Global, number: usize, link: &Value) -> Judged<Row, Form>
-    ensures row { IfAccepted result (λ row. IsLink number (view link.now) (row_of row)) }
-    ensures none { IfRefused result (λ form. IsNoLink (view link.now) × ((form ≡ Form.Link) ⊎ (form ≡ Form.Weight))) }
+fn row_in(alloc: Global, line: usize, link: &Value) -> Judged<Row, Form>
+    ensures { IfOk result (λ row. result_map_both row_of (λ form. form) row ≡ link_says line (view link.now)) }
 {
     let Some(a) = name_at(alloc, link, "source")? else {
         return Ok(Err(Form::Link));
@@ -96,19 +87,12 @@ fn row_in(alloc: Global, number: usize, link: &Value) -> Judged<Row, Form>
     let Some(weight) = weight_of(link) else {
         return Ok(Err(Form::Weight));
     };
-    Ok(Ok(Row {
-        line: number,
-        a,
-        b,
-        weight,
-    }))
+    Ok(Ok(Row { line, a, b, weight }))
 }
 
 // The rows of links, or the first that says none.
 fn rows_of(alloc: Global, links: &[Value]) -> Judged<Vec<Row>, LineRefused>
-    ensures rows { IfAccepted result (λ rows. LinksSay 0 (map view links.now) (map row_of rows.items)) }
-    ensures refused { IfRefused result (λ refused. IsFirstNoLink (map view links.now) refused.number
-        × ((refused.form ≡ Form.Link) ⊎ (refused.form ≡ Form.Weight))) }
+    ensures { Answers (λ rows. map row_of rows.items) result (after_each with_link 1 (map view links.now) []) }
 {
     let mut rows = Vec::new(alloc);
     for index in 0..links.len() {
@@ -121,16 +105,17 @@ fn rows_of(alloc: Global, links: &[Value]) -> Judged<Vec<Row>, LineRefused>
     Ok(Ok(rows))
 }
 
-// What nodes are called, or the number of the first that isn't.
-fn labels_of(alloc: Global, nodes: &[Value]) -> Judged<Vec<String>, usize>
-    ensures labels { IfAccepted result (λ labels. AreIds (map view nodes.now) (map string_bytes labels.items)) }
-    ensures refused { IfRefused result (λ number. IsFirstNoNode (map view nodes.now) number) }
+// What nodes are called, or the first that isn't.
+fn labels_of(alloc: Global, nodes: &[Value]) -> Judged<Vec<String>, LineRefused>
+    ensures { Answers (λ labels. map string_bytes labels.items) result (after_each with_node 1 (map view nodes.now) []) }
 {
+    let form = Form::Node;
     let mut labels = Vec::new(alloc);
     for index in 0..nodes.len() {
+        let number = index + 1;
         match name_at(alloc, &nodes[index], "id")? {
             Some(label) => labels.push(label)?,
-            None => return Ok(Err(index + 1)),
+            None => return Ok(Err(LineRefused { number, form })),
         }
     }
     Ok(Ok(labels))
@@ -151,7 +136,7 @@ fn have_numbers(nodes: &[Value]) -> bool
 }
 
 // The array at a key.
-#[tactic(auto, using(crate::proofs::LinkLemmas::array_there, crate::proofs::LinkLemmas::array_absent, crate::proofs::LinkLemmas::no_array))]
+#[tactic(auto, using(crate::proofs::LinkedLemmas::array_there))]
 fn array_at<'a>(value: &'a Value, key: &str) -> Option<&'a [Value]>
     ensures { option_map (λ items. map view items.now) result ≡ items_at key.now (view value.entry.now) }
 {
@@ -160,7 +145,6 @@ fn array_at<'a>(value: &'a Value, key: &str) -> Option<&'a [Value]>
 }
 
 // The links.
-#[tactic(auto, using(crate::proofs::LinkLemmas::links_first, crate::proofs::LinkLemmas::links_second))]
 fn links_at<'a>(value: &'a Value) -> Option<&'a [Value]>
     ensures { option_map (λ links. map view links.now) result ≡ links_of (view value.entry.now) }
 {
@@ -170,12 +154,10 @@ fn links_at<'a>(value: &'a Value) -> Option<&'a [Value]>
     }
 }
 
-// What a value says of nodes and links, or why it says none.
-fn links_in(alloc: Global, text: &str, value: &Value) -> Judged<Links, LineRefused>
-    requires { read text.now ≡ Some (view value.now) }
-    ensures says { IfAccepted result
-        (λ links. SaysLinks text.now (map string_bytes links.labels.items) links.by_numbers (map row_of links.rows.items)) }
-    ensures refused { IfRefused result (λ refused. IsNoNetwork (view value.now) refused.number refused.form) }
+// What a value says of nodes and links, or the first that is refused.
+#[tactic(auto, using(crate::proofs::LinkedLemmas::all_numbers))]
+fn links_in(alloc: Global, value: &Value) -> Judged<Links, LineRefused>
+    ensures { Answers network_of result (network_in (view value.now)) }
 {
     let (number, form) = (1, Form::Arrays);
     let Some(nodes) = array_at(value, "nodes") else {
@@ -186,10 +168,7 @@ fn links_in(alloc: Global, text: &str, value: &Value) -> Judged<Links, LineRefus
     };
     let labels = match labels_of(alloc, nodes)? {
         Ok(labels) => labels,
-        Err(number) => {
-            let form = Form::Node;
-            return Ok(Err(LineRefused { number, form }));
-        }
+        Err(refused) => return Ok(Err(refused)),
     };
     let by_numbers = have_numbers(nodes);
     match rows_of(alloc, links)? {
@@ -204,11 +183,9 @@ fn links_in(alloc: Global, text: &str, value: &Value) -> Judged<Links, LineRefus
 
 /// What node-link JSON says: what each node is called, and the links. Or the first node or link that isn't understood, or the line
 /// in which the text is no JSON.
-#[tactic(auto, using(crate::proofs::LinkLemmas::is_no_json, crate::proofs::LinkLemmas::is_no_network))]
 pub fn read_links(alloc: Global, text: &str) -> Judged<Links, LineRefused>
-    ensures says { IfAccepted result
-        (λ links. SaysLinks text.now (map string_bytes links.labels.items) links.by_numbers (map row_of links.rows.items)) }
-    ensures refused { IfRefused result (λ refused. IsNoNodeLink text.now refused.number refused.form) }
+    ensures says { IfAccepted result (λ links. network_said text.now ≡ Some (Ok (network_of links))) }
+    ensures refused { IfRefused result (λ refused. IsNoNetwork text.now refused) }
 {
     let value = match Value::from_str(alloc, text) {
         Ok(value) => value,
@@ -220,5 +197,5 @@ pub fn read_links(alloc: Global, text: &str) -> Judged<Links, LineRefused>
             return Ok(Err(LineRefused { number, form }));
         }
     };
-    links_in(alloc, text, &value)
+    links_in(alloc, &value)
 }

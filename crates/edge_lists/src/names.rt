@@ -1,13 +1,12 @@
 // Names of nodes.
-ghost use Rattle.std.specs.Prelude.{◌≡◌, ◌↔◌, ◌<◌, ◌+◌, ◌^◌, ◌∷◌, ◌++◌, [], All, IfOk, IfSome, IsTrue, OnErr, OnOk, false, ℕ, is_some, length, map};
+ghost use Rattle.std.specs.Prelude.{◌≡◌, ◌⊎◌, ◌<◌, ◌^◌, ◌∷◌, ◌++◌, [], All, Err, IfOk, Ok, OnErr, OnOk, length, map};
 ghost use Rattle.std.specs.String.{string_bytes};
 ghost use Rattle.value_syntax.specs.Reading.{IfRead, texts_of};
 ghost use Rattle.value_syntax.specs.Scripts.{lines_of};
-ghost use Rattle.edge_lists.specs.Edges.{IsEdgeOf};
-ghost use Rattle.edge_lists.specs.NameLists.{AreBegun, AreNames, AreTaken, EndsAt, HaveNumbers, IsFirstNoName, IsNoName, IsNumberOf, IsOneTooMany, NoneTwice, has_number, is_among, row_ends, with_name, with_names};
+ghost use Rattle.edge_lists.specs.NameLists.{AreBegun, NoneTwice, has_number, is_among, names_listed, number_in, row_taken, rows_taken, why_no_name, with_name};
 ghost use Rattle.edge_rows.specs.Reading.{IfAccepted, IfNoneRead, IfRefused, OnRead};
 ghost use Rattle.edge_rows.specs.Rows.{row_of};
-ghost use Rattle.edge_lists.specs.Written.{AreListed, IsOneLine, names_text};
+ghost use Rattle.edge_lists.specs.Written.{IsOneLine, names_text};
 
 use crate::edge::Edge;
 use edge_rows::{Judged, Row, Tried, is_name};
@@ -89,9 +88,8 @@ impl<'a> Names<'a> {
 
     // Takes a line as the next name, or says why it is none.
     fn take_line(&mut self, line: &'a str, most: u16) -> Tried<Option<NameForm>>
+        ensures form { IfOk result (λ form. form ≡ why_no_name most self.old line.entry.now) }
         ensures taken { IfNoneRead result (self.new ≡ self.old ++ line.entry.now ∷ []) }
-        ensures names { IfNoneRead result (AreNames most self.old → AreNames most self.new) }
-        ensures refused { IfRead result (λ form. IsNoName most self.old line.entry.now form) }
     {
         if !is_name(line) {
             return Ok(Some(NameForm::NoName));
@@ -108,15 +106,13 @@ impl<'a> Names<'a> {
     /// The names that these lines are, at most `most`. Or the first line that is no name, or is one for the second time.
     pub fn from_lines(alloc: Global, lines: &[&'a str], most: u16) -> Judged<Names<'a>, NameRefused>
         ensures lines { IfAccepted result (λ names. names ≡ texts_of lines.now) }
-        ensures names { IfAccepted result (λ names. AreNames most names) }
-        ensures refused { IfRefused result (λ refused. IsFirstNoName most (texts_of lines.now) refused) }
+        ensures answer { IfOk result (λ answer. answer ≡ names_listed most (texts_of lines.now)) }
     {
         let mut names = Names::new(alloc);
         for index in 0..lines.len() {
             let number = index + 1;
-            match names.take_line(lines[index], most)? {
-                Some(form) => return Ok(Err(NameRefused { number, form })),
-                None => {}
+            if let Some(form) = names.take_line(lines[index], most)? {
+                return Ok(Err(NameRefused { number, form }));
             }
         }
         Ok(Ok(names))
@@ -125,8 +121,7 @@ impl<'a> Names<'a> {
     /// The same of the lines of a text.
     pub fn read(alloc: Global, text: &'a str, most: u16) -> Judged<Names<'a>, NameRefused>
         ensures lines { IfAccepted result (λ names. names ≡ lines_of text.entry.now) }
-        ensures names { IfAccepted result (λ names. AreNames most names) }
-        ensures refused { IfRefused result (λ refused. IsFirstNoName most (lines_of text.entry.now) refused) }
+        ensures answer { IfOk result (λ answer. answer ≡ names_listed most (lines_of text.entry.now)) }
     {
         let texts = lines_in(alloc, text)?;
         Names::from_lines(alloc, &texts, most)
@@ -134,9 +129,9 @@ impl<'a> Names<'a> {
 
     /// The number of a name, which gets the next one where it is new; `None` where there are `most` names already and
     /// it is none of them.
+    #[tactic(auto, using(crate::proofs::NameLemmas::among_keys, crate::proofs::NameLemmas::length_texts))]
     pub fn number_of(&mut self, name: &'a str, most: u16) -> Tried<Option<u16>>
-        ensures number { IfRead result (λ number. IsNumberOf self.new name.entry.now number) }
-        ensures some { IfOk result (λ found. is_some found ≡ has_number most self.old name.entry.now) }
+        ensures number { IfOk result (λ number. number ≡ number_in most self.old name.entry.now) }
         ensures names { OnRead result (self.new ≡ with_name self.old name.entry.now) }
         ensures once { OnRead result (NoneTwice self.new) }
 
@@ -154,11 +149,10 @@ impl<'a> Names<'a> {
 
     // The edge of a row, by the numbers of its names.
     fn edge_of(&mut self, row: &'a Row, most: u16) -> Tried<Option<Edge>>
-        ensures edge { IfRead result (λ edge. IsEdgeOf (IsNumberOf self.new) (row_of row.entry.now) edge) }
-        ensures numbers { OnRead result (HaveNumbers most self.old (row_ends (row_of row.entry.now))) }
-        ensures names { OnRead result (self.new ≡ with_names self.old (row_ends (row_of row.entry.now))) }
-        ensures none { IfNoneRead result (EndsAt most self.old (row_of row.entry.now) self.new) }
-        ensures err { OnErr result (AreBegun self.old (row_of row.entry.now ∷ []) self.new) }
+        ensures edge { IfRead result (λ edge. row_taken most (row_of row.entry.now) self.old ≡ Ok (edge, self.new)) }
+        ensures none { IfNoneRead result (row_taken most (row_of row.entry.now) self.old ≡ Err self.new) }
+        ensures names { OnRead result (self.new ≡ with_name (with_name self.old (row_of row.entry.now).a) (row_of row.entry.now).b) }
+        ensures err { OnErr result ((self.new ≡ self.old) ⊎ (self.new ≡ with_name self.old (row_of row.entry.now).a)) }
     {
         let Some(a) = self.number_of(row.a.as_str(), most)? else {
             return Ok(None);
@@ -178,25 +172,23 @@ impl<'a> Names<'a> {
         rows: &'a [Row],
         most: u16,
     ) -> Judged<Vec<Edge>, NameRefused>
-        ensures taken { IfAccepted result (λ edges. AreTaken most self.old (map row_of rows.entry.now) edges.items self.new) }
-        ensures refused { IfRefused result (λ why. IsOneTooMany most self.old (map row_of rows.entry.now) why self.new) }
+        ensures taken { IfAccepted result (λ edges. rows_taken most self.old (map row_of rows.entry.now) ≡ Ok (self.new, edges.items)) }
+        ensures refused { IfRefused result (λ why. rows_taken most self.old (map row_of rows.entry.now) ≡ Err (why, self.new)) }
         ensures err { OnErr result (AreBegun self.old (map row_of rows.entry.now) self.new) }
     {
         let mut edges = Vec::new(alloc);
         for row in rows {
-            match self.edge_of(row, most)? {
-                Some(edge) => edges.push(edge)?,
-                None => {
-                    let number = row.line;
-                    let form = NameForm::TooMany;
-                    return Ok(Err(NameRefused { number, form }));
-                }
-            }
+            let Some(edge) = self.edge_of(row, most)? else {
+                let (number, form) = (row.line, NameForm::TooMany);
+                return Ok(Err(NameRefused { number, form }));
+            };
+            edges.push(edge)?;
         }
         Ok(Ok(edges))
     }
 
     /// The names in the order of their numbers.
+    #[tactic(auto, using(crate::proofs::NameLemmas::once_by_set))]
     pub fn list(&self) -> &[&'a str]
         ensures names { texts_of result.now ≡ self.now }
         ensures once { NoneTwice self.now }
@@ -208,8 +200,7 @@ impl<'a> Names<'a> {
     /// A line for each name, in the order of their numbers: what [`Names::read`] reads.
     pub fn written(&self, alloc: Global) -> Tried<String>
         ensures text { IfOk result (λ text. string_bytes text ≡ names_text self.now) }
-        ensures read { IfOk result (λ text. (most : ℕ) → AreNames most self.now → All IsOneLine self.now
-            → AreListed most (string_bytes text) self.now) }
+        ensures read { IfOk result (λ text. All IsOneLine self.now → lines_of (string_bytes text) ≡ self.now) }
     {
         let mut text = String::new(alloc);
         let names = self.list();

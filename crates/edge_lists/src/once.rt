@@ -1,7 +1,7 @@
 // One edge for each two nodes.
-ghost use Rattle.std.specs.Prelude.{◌≡◌, ◌+◌, ◌<◌, length, take};
-ghost use Rattle.edge_lists.specs.Once.{AreOnce, IsFirstClash, IsKept, pair_of};
-ghost use Rattle.edge_rows.specs.Reading.{IfAccepted, IfNoneRead, IfRefused};
+ghost use Rattle.std.specs.Prelude.{◌≡◌, Err, Ok};
+ghost use Rattle.edge_lists.specs.Once.{once_of, pair_of, with_edge};
+ghost use Rattle.edge_rows.specs.Reading.{Answers, IfNoneRead};
 ghost use Rattle.value_syntax.specs.Reading.{IfRead};
 
 use crate::edge::Edge;
@@ -24,19 +24,11 @@ fn pair_of(edge: &Edge) -> u32
     low as u32 * 65_536 + high as u32
 }
 
-// Keeps the edge of an index, where those before it are kept. Or the two lines that aren't taken as one.
-fn keep_one(
-    kept: &mut IndexMap<u32, Edge>,
-    edges: &[Edge],
-    index: usize,
-    by_least: bool,
-) -> Tried<Option<Clash>>
-    requires within { index < length edges.now }
-    requires before { IsKept by_least (take index edges.now) kept.old }
-    ensures kept { IfNoneRead result (IsKept by_least (take (index + 1) edges.now) kept.new) }
-    ensures clash { IfRead result (IsFirstClash by_least edges.now) }
+// Keeps the edge behind others, or gives the two lines that aren't taken as one.
+fn keep_one(kept: &mut IndexMap<u32, Edge>, edge: Edge, by_least: bool) -> Tried<Option<Clash>>
+    ensures kept { IfNoneRead result (with_edge by_least edge kept.old.entries ≡ Ok kept.new.entries) }
+    ensures clash { IfRead result (λ clash. with_edge by_least edge kept.old.entries ≡ Err clash) }
 {
-    let edge = edges[index];
     let pair = pair_of(&edge);
     let Some(other) = kept.get(&pair).copied() else {
         kept.insert(pair, edge)?;
@@ -46,10 +38,8 @@ fn keep_one(
         return Ok(None);
     }
     if !by_least {
-        return Ok(Some(Clash {
-            first: other.line,
-            second: edge.line,
-        }));
+        let (first, second) = (other.line, edge.line);
+        return Ok(Some(Clash { first, second }));
     }
     if edge.weight < other.weight {
         kept.insert(pair, edge)?;
@@ -60,14 +50,12 @@ fn keep_one(
 
 /// One edge for each two nodes that edges join, in the order in which the first of each came. Edges between the same nodes
 /// are one edge, where they have one weight or `by_least`: then it has the least. Or the first edge with another weight.
-#[tactic(auto, using(crate::proofs::OnceLemmas::none_kept))]
 pub fn each_once(alloc: Global, edges: &[Edge], by_least: bool) -> Judged<Vec<Edge>, Clash>
-    ensures taken { IfAccepted result (λ taken. AreOnce by_least edges.now taken.items) }
-    ensures clash { IfRefused result (IsFirstClash by_least edges.now) }
+    ensures { Answers (λ taken. taken.items) result (once_of by_least edges.now) }
 {
     let mut kept = IndexMap::new(alloc);
-    for index in 0..edges.len() {
-        if let Some(clash) = keep_one(&mut kept, edges, index, by_least)? {
+    for edge in edges {
+        if let Some(clash) = keep_one(&mut kept, *edge, by_least)? {
             return Ok(Err(clash));
         }
     }

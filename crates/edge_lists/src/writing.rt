@@ -131,6 +131,7 @@ fn node_value(alloc: Global, names: &[&str], node: u16) -> Tried<Value>
     json!(in alloc; {"id": label})
 }
 
+#[tactic(auto, using(crate::proofs::LinkedLemmas::of_array, std::proofs::lemmas::List::take_all))]
 fn links_value(alloc: Global, names: &[&str], edges: &[Edge]) -> Tried<Value>
     ensures { IfOk result (λ links. view links ≡ array (items_of (map (link_data (texts_of names.now)) edges.now))) }
 {
@@ -142,6 +143,7 @@ fn links_value(alloc: Global, names: &[&str], edges: &[Edge]) -> Tried<Value>
     Ok(Value::Array(links))
 }
 
+#[tactic(auto, using(crate::proofs::LinkedLemmas::of_array))]
 fn nodes_value(alloc: Global, names: &[&str], nodes: u16) -> Tried<Value>
     ensures { IfOk result (λ all. view all ≡ array (items_of (map (node_data (texts_of names.now)) (below nodes)))) }
 {

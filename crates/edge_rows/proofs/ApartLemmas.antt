@@ -1,6 +1,7 @@
 -- The forms of lists of edges are told apart, a line at a time.
-use Rattle.std.proofs.Common.{arith, ◌≡◌, ◌⊎◌, ◌+◌, ◌∙◌, inl, inr, ap, ap₂, sym, subst, refl, ℕ, suc, List, [], ◌∷◌, Bool, true, false, not, cond, drop, Option, Some, None}
-use Rattle.std.specs.Prelude.{◌&&◌, ◌||◌, Result, Ok, Err, is_some, unwrap_or}
+use Rattle.std.proofs.Common.{arith, ◌≡◌, ◌⊎◌, ◌+◌, ◌∙◌, inl, inr, ap, ap₂, sym, subst, refl, ℕ, suc, List, [], ◌∷◌, Bool, true, false, not, cond, drop, ◌++◌, Option, Some, None}
+use Rattle.std.specs.Prelude.{◌&&◌, ◌||◌, Ok, Err, is_some, unwrap_or}
+use Rattle.std.specs.Option.{option_map_or}
 use Rattle.std.proofs.lemmas.Bool.{or_right}
 use Rattle.std.proofs.lemmas.Bool.Decides.{Decides-eqb}
 use Rattle.value_syntax.specs.Scripts.{lines_of}
@@ -8,7 +9,7 @@ use Rattle.edge_rows.specs.declared.forms.Heading.TheVariants.{ByWords, There, A
 use Rattle.edge_rows.specs.declared.forms.Writing.{Writing}
 use Rattle.edge_rows.specs.declared.forms.Writing.TheVariants.{Edges, Dimacs, Relations}
 use Rattle.edge_rows.specs.Records.{comma_fields, has_comma}
-use Rattle.edge_rows.specs.Rows.{IsAlone, IsPlain, Said, alone, arc_fields, are_some, each_of, fields_of, form_at, form_by, form_in, is_head, is_heading, is_letter, is_problem, lead, parts_at, related, relation_parts, row_said, line_says, says_nothing, scale_of, with_item, words_of}
+use Rattle.edge_rows.specs.Rows.{IsAlone, IsPlain, Said, after_each, arc_fields, are_some, fields_of, form_at, form_by, form_in, is_head, is_heading, is_letter, lead, nodes_word, parts_at, related, relation_parts, row_said, says_nothing, scale_of, then_by, with_line, words_of}
 
 -- what a line of a form shows
 abbrev shown : Writing → Option Writing
@@ -67,10 +68,10 @@ some_fields line [] said is = absurd (cc)
 some_fields line (field ∷ fields) said is = refl
 
 arc_shows : (line : ℕ) (words : List (List ℕ)) (said : Said) → row_said None line (arc_fields words) ≡ Some said → form_by words ≡ Some Dimacs
-arc_shows line words said is = ap (λ (t : Bool). cond (t || is_problem words) (Some Dimacs) (shown_else words)) (some_fields line (arc_fields words) said is)
+arc_shows line words said is = ap (λ (t : Bool). cond (t || is_some (nodes_word words)) (Some Dimacs) (shown_else words)) (some_fields line (arc_fields words) said is)
 
-problem_shows : (words : List (List ℕ)) → is_problem words ≡ true → form_by words ≡ Some Dimacs
-problem_shows words is = ap (λ (t : Bool). cond t (Some Dimacs) (shown_else words)) (or_right (are_some (arc_fields words)) (is_problem words) is)
+problem_shows : (words : List (List ℕ)) → is_some (nodes_word words) ≡ true → form_by words ≡ Some Dimacs
+problem_shows words is = ap (λ (t : Bool). cond t (Some Dimacs) (shown_else words)) (or_right (are_some (arc_fields words)) (is_some (nodes_word words)) is)
 
 relation_shows : (line : ℕ) (words : List (List ℕ)) (said : Said) → says_nothing Relations words ≡ false → row_said None line (related (relation_parts words)) ≡ Some said → form_by words ≡ Some Relations
 relation_shows line [] said some is = absurd (cc)
@@ -114,54 +115,54 @@ head_line (Edges ByWords scale) text plain is = by (has_comma text) is where
 head_line (Edges There scale) text plain is = absurd (cc)
 head_line (Edges Absent scale) text plain is = absurd (cc)
 head_line Dimacs text plain is = by (has_comma text) is where
-  by : (c : Bool) → (not c && is_problem (words_of text)) ≡ true → cond c None (form_by (words_of text)) ≡ Some Dimacs
+  by : (c : Bool) → (not c && is_some (nodes_word (words_of text))) ≡ true → cond c None (form_by (words_of text)) ≡ Some Dimacs
   by true is = absurd (cc)
   by false is = problem_shows (words_of text) is
 head_line Relations text plain is = absurd (cc)
 
 -- ---- texts
 
--- what lines show that say edges: their form, unless they say none and show none
-abbrev Shows : Writing → List Said → Option Writing → Type 0
-Shows writing said form = (form ≡ shown writing) ⊎ ((said ≡ []) × (form ≡ None))
+-- what lines show that say edges behind others: their form, unless they say none and show none
+abbrev Shows : Writing → List Said → List Said → Option Writing → Type 0
+Shows writing made said form = (form ≡ shown writing) ⊎ ((said ≡ made) × (form ≡ None))
 
 first_shown : (text : List ℕ) (texts : List (List ℕ)) (form : Option Writing) → form_at text ≡ form → form_in (text ∷ texts) ≡ cond (is_some form) form (form_in texts)
 first_shown text texts form is = ap (λ (o : Option Writing). cond (is_some o) o (form_in texts)) is
 
 -- a line of the form, and more lines
-form_goes_on : (writing : Writing) (text : List ℕ) (texts : List (List ℕ)) (all said : List Said) → form_at text ≡ shown writing → Shows writing all (form_in texts) → Shows writing said (form_in (text ∷ texts))
-form_goes_on (Edges heading scale) text texts all said is (inl none) = inl (first_shown text texts None is ∙ none)
-form_goes_on (Edges heading scale) text texts all said is (inr none) = inl (first_shown text texts None is ∙ none.1)
-form_goes_on Dimacs text texts all said is more = inl (first_shown text texts (Some Dimacs) is)
-form_goes_on Relations text texts all said is more = inl (first_shown text texts (Some Relations) is)
+form_goes_on : (writing : Writing) (text : List ℕ) (texts : List (List ℕ)) (all made before said : List Said) → form_at text ≡ shown writing → Shows writing all said (form_in texts) → Shows writing made before (form_in (text ∷ texts))
+form_goes_on (Edges heading scale) text texts all made before said is (inl none) = inl (first_shown text texts None is ∙ none)
+form_goes_on (Edges heading scale) text texts all made before said is (inr none) = inl (first_shown text texts None is ∙ none.1)
+form_goes_on Dimacs text texts all made before said is more = inl (first_shown text texts (Some Dimacs) is)
+form_goes_on Relations text texts all made before said is more = inl (first_shown text texts (Some Relations) is)
 
-lines_show : (writing : Writing) (n : ℕ) (said : List Said) (texts : List (List ℕ)) → each_of (line_says writing) n texts ≡ Ok said → Shows writing said (form_in texts)
-lines_show writing n said [] is = let same : said ≡ [] = cc in inr (same, refl)
-lines_show writing n said (text ∷ texts) is =
-    by (says_nothing writing (words_of text)) (row_said (scale_of writing) n (fields_of writing text)) (each_of (line_says writing) (n + 1) texts) refl refl (λ more. lines_show writing (n + 1) more texts) is where
-      by : (silent : Bool) (row : Option Said) (rest : Result (List Said) ℕ) → says_nothing writing (words_of text) ≡ silent → row_said (scale_of writing) n (fields_of writing text) ≡ row
-          → ((more : List Said) → rest ≡ Ok more → Shows writing more (form_in texts)) → with_item (cond silent (Some []) (alone row)) n rest ≡ Ok said → Shows writing said (form_in (text ∷ texts))
-      by true row (Ok more) none e shows is = subst (Shows writing said) (sym (first_shown text texts None (silent_line writing text none))) (shows said is)
-      by true row (Err k) none e shows is = absurd (cc)
-      by false None rest some e shows is = absurd (cc)
-      by false (Some row) (Ok more) some e shows is = form_goes_on writing text texts more said (row_line writing text n row some e) (shows more refl)
-      by false (Some row) (Err k) some e shows is = absurd (cc)
+lines_show : (writing : Writing) (n : ℕ) (made said : List Said) (texts : List (List ℕ)) → after_each (with_line writing) n texts made ≡ Ok said → Shows writing made said (form_in texts)
+lines_show writing n made said [] is = let same : said ≡ made = cc in inr (same, refl)
+lines_show writing n made said (text ∷ texts) is =
+    by (says_nothing writing (words_of text)) (row_said (scale_of writing) n (fields_of writing text)) refl refl (λ next. lines_show writing (n + 1) next said texts) is where
+      by : (silent : Bool) (row : Option Said) → says_nothing writing (words_of text) ≡ silent → row_said (scale_of writing) n (fields_of writing text) ≡ row
+          → ((next : List Said) → after_each (with_line writing) (n + 1) texts next ≡ Ok said → Shows writing next said (form_in texts))
+          → then_by (after_each (with_line writing) (n + 1) texts) (cond silent (Ok made) (option_map_or (λ one. Ok (made ++ one ∷ [])) row (Err n))) ≡ Ok said → Shows writing made said (form_in (text ∷ texts))
+      by true row none e shows is = subst (Shows writing made said) (sym (first_shown text texts None (silent_line writing text none))) (shows made is)
+      by false None some e shows is = absurd (cc)
+      by false (Some row) some e shows is = form_goes_on writing text texts (made ++ row ∷ []) made said said (row_line writing text n row some e) (shows (made ++ row ∷ []) is)
 
-text_shows : (writing : Writing) (n : ℕ) (said : List Said) (texts : List (List ℕ)) → IsPlain writing → each_of (line_says writing) n (drop (lead writing texts) texts) ≡ Ok said → Shows writing said (form_in texts)
-text_shows writing n said [] plain is = lines_show writing n said [] is
+text_shows : (writing : Writing) (n : ℕ) (said : List Said) (texts : List (List ℕ)) → IsPlain writing → after_each (with_line writing) n (drop (lead writing texts) texts) [] ≡ Ok said → Shows writing [] said (form_in texts)
+text_shows writing n said [] plain is = lines_show writing n [] said [] is
 text_shows writing n said (text ∷ texts) plain is = by (says_nothing writing (words_of text)) (is_head writing text) refl refl is (text_shows writing n said texts plain) where
-  by : (silent head : Bool) → says_nothing writing (words_of text) ≡ silent → is_head writing text ≡ head → each_of (line_says writing) n (drop (cond silent (lead writing texts + 1) (cond head 1 0)) (text ∷ texts)) ≡ Ok said
-      → (each_of (line_says writing) n (drop (lead writing texts) texts) ≡ Ok said → Shows writing said (form_in texts)) → Shows writing said (form_in (text ∷ texts))
+  by : (silent head : Bool) → says_nothing writing (words_of text) ≡ silent → is_head writing text ≡ head
+      → after_each (with_line writing) n (drop (cond silent (lead writing texts + 1) (cond head 1 0)) (text ∷ texts)) [] ≡ Ok said
+      → (after_each (with_line writing) n (drop (lead writing texts) texts) [] ≡ Ok said → Shows writing [] said (form_in texts)) → Shows writing [] said (form_in (text ∷ texts))
   by true head none e is rest =
       let next : lead writing texts + 1 ≡ suc (lead writing texts) = omega arith in
-      subst (Shows writing said) (sym (first_shown text texts None (silent_line writing text none))) (rest (subst (λ (k : ℕ). each_of (line_says writing) n (drop k (text ∷ texts)) ≡ Ok said) next is))
-  by false true some e is rest = form_goes_on writing text texts said said (head_line writing text plain e) (lines_show writing n said texts is)
-  by false false some e is rest = lines_show writing n said (text ∷ texts) is
+      subst (Shows writing [] said) (sym (first_shown text texts None (silent_line writing text none))) (rest (subst (λ (k : ℕ). after_each (with_line writing) n (drop k (text ∷ texts)) [] ≡ Ok said) next is))
+  by false true some e is rest = form_goes_on writing text texts [] [] said said (head_line writing text plain e) (lines_show writing n [] said texts is)
+  by false false some e is rest = lines_show writing n [] said (text ∷ texts) is
 
 -- the form that a text shows is the one in which it says edges
 pub form_alone : (text : List ℕ) (form : Option Writing) → form_in (lines_of text) ≡ form → IsAlone text (unwrap_or form (Edges ByWords None))
 form_alone text form is writing said plain says some = by writing plain (text_shows writing (lead writing (lines_of text) + 1) said (lines_of text) plain says) where
-  by : (w : Writing) → IsPlain w → Shows w said (form_in (lines_of text)) → w ≡ unwrap_or form (Edges ByWords None)
+  by : (w : Writing) → IsPlain w → Shows w [] said (form_in (lines_of text)) → w ≡ unwrap_or form (Edges ByWords None)
   by w plain (inr none) = absurd (some none.0)
   by (Edges heading scale) plain (inl shows) =
       ap (λ h. Edges h scale) plain.0 ∙ ap (Edges ByWords) plain.1 ∙ ap (λ (o : Option Writing). unwrap_or o (Edges ByWords None)) (sym shows ∙ is)

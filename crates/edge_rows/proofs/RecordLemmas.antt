@@ -1,16 +1,15 @@
 -- Records of CSV, one behind another.
-use Rattle.std.proofs.Common.{◌≡◌, ◌+◌, ◌∙◌, ◌<◌, sym, ap, subst, refl, ℕ, List, [], ◌∷◌, ◌++◌, Bool, cond, length, take, Option, Some, None, Bor}
+use Rattle.std.proofs.Common.{arith, ◌≡◌, ◌+◌, ◌∙◌, sym, ap, subst, refl, ℕ, zero, suc, List, [], ◌∷◌, ◌++◌, Bool, cond, drop, Option, Some, None, Bor}
 use Rattle.std.specs.Prelude.{◌&&◌, is_some, not}
-use Rattle.std.specs.Option.{option_map}
-use Rattle.std.proofs.lemmas.List.{take_more}
-use Rattle.csv.proofs.RecordFacts.{field-get, field-there}
+use Rattle.std.specs.Option.{option_map_or}
 use Rattle.csv.specs.Machine.{Read, next_record}
 use Rattle.csv.specs.Reading.{strip_bom}
 use Rattle.csv.specs.Records.{field_at}
 use Rattle.csv.specs.declared.parser.State.{State}
 use Rattle.csv.specs.declared.parser.State.TheVariants.{StartRecord}
 use Rattle.csv.specs.declared.reader.Reader.{Reader}
-use Rattle.edge_rows.specs.Records.{GivesNext, StandsAt, before_last, first_of_two, next, raw_fields}
+use Rattle.edge_rows.specs.Records.{GivesNext, StandsAt, first_of_two, next, raw_fields}
+use Rattle.edge_rows.specs.Rows.{with_first}
 
 -- ---- three readings
 
@@ -25,7 +24,7 @@ first_of_three (Some p) f g h x y z r t u (found, fields, at) goes last = by (ne
   again None none = rw none (sym fields)
   again (Some s) more = rw more.0 refl
 
-  by : (o : Option Read) → GivesNext o g y t → before_last p.0 o ≡ cond (f && g && not h) x []
+  by : (o : Option Read) → GivesNext o g y t → option_map_or (λ q. cond (is_some (next q.1 q.2)) [] p.0) o [] ≡ cond (f && g && not h) x []
   by None none = rw (found, none) refl
   by (Some q) more = rw (found, more.0) (again (next q.1 q.2) (last q.1 q.2 more.2))
 
@@ -49,11 +48,12 @@ line_read reader r t u text bytes f g h one x y z is at first second third same 
     let gives = subst (λ (o : Option Read). GivesNext o f x r) (skipped rest) (first StartRecord (10 ∷ rest) here) in
     first_of_three (next StartRecord rest) f g h x y z r t u gives second third ∙ ap (λ (b : Bool). cond b x []) same
 
--- ---- fields
-
--- the field at a place is one more
-pub field_more : (xs : List (List ℕ)) (i : ℕ) (o : Option (Bor (List ℕ))) (x : Bor (List ℕ)) → i < length xs → option_map (λ x. x.now) o ≡ field_at xs i → o ≡ Some x → take (i + 1) xs ≡ take i xs ++ x.now ∷ []
-field_more xs i o x lt at is = take_more xs i [] lt ∙ ap (λ (y : List ℕ). take i xs ++ y ∷ []) (field-get xs i x.now (sym at ∙ ap (option_map (λ (x : Bor (List ℕ)). x.now)) is))
-
-pub no_field : (xs : List (List ℕ)) (i : ℕ) (o : Option (Bor (List ℕ))) → i < length xs → option_map (λ x. x.now) o ≡ field_at xs i → o ≡ None → ⊥
-no_field xs i o lt at none = field-there xs i lt (sym at ∙ ap (option_map (λ (x : Bor (List ℕ)). x.now)) none)
+-- the fields from a place on, by the one there
+pub fields_from : (fields : List (List ℕ)) (i : ℕ) → drop i fields ≡ with_first (field_at fields i) (drop (i + 1) fields)
+unfolding field_at
+fields_from [] zero = refl
+fields_from [] (suc i) = refl
+fields_from (field ∷ fields) zero = refl
+fields_from (field ∷ fields) (suc i) =
+    let next : suc i + 1 ≡ suc (i + 1) = omega arith in
+    fields_from fields i ∙ ap (λ (n : ℕ). with_first (field_at fields i) (drop n (field ∷ fields))) (sym next)

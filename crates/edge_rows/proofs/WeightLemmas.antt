@@ -1,5 +1,5 @@
 -- Weights as they are read.
-use Rattle.std.proofs.Common.{arith, cond, Some, None, decimal, ◌≡◌, ◌≤◌, ◌<◌, ◌^◌, ◌∙◌, ◌&&◌, ◌==◌, not, ap, sym, refl, ℕ, List, [], ◌∷◌, Bool, true, false, length, ◌++◌}
+use Rattle.std.proofs.Common.{arith, cond, Some, None, decimal, ◌≡◌, ◌≤◌, ◌<◌, ◌^◌, ◌+◌, ◌∙◌, ◌&&◌, ◌==◌, not, ap, sym, refl, ℕ, List, [], ◌∷◌, Bool, true, false, length, ◌++◌}
 use Rattle.std.specs.Prelude.{Result, Ok, nat_le}
 use Rattle.std.specs.Str.{bytes_eq}
 use Rattle.std.specs.Char.{is_ascii_digit}
@@ -14,7 +14,7 @@ use Rattle.std.proofs.lemmas.Slice.Eq.{bytes_eq-Decides}
 use Rattle.std.proofs.lemmas.Bool.{le-leb, leb-true}
 use Rattle.std.proofs.lemmas.Str.Parse.{IsNumeralModel, digits_value_short, numerals_by_value, parse_gives, tells_all_ascii_digits}
 use Rattle.edge_rows.specs.Labels.{are_digits}
-use Rattle.edge_rows.specs.Rows.{if_small, plain_weight}
+use Rattle.edge_rows.specs.Rows.{plain_number}
 
 digits_all : (ds : List ℕ) → list_all is_ascii_digit ds ≡ all_ascii_digits ds
 digits_all [] = refl
@@ -31,9 +31,8 @@ value_parsed (d ∷ ds) r is short parsed =
     let small : digits_value 10 (d ∷ ds) < 10 ^ 18 = digits_value_short own (d ∷ ds) 18 all short in
     parse_gives own 64 (d ∷ ds) r parsed all (omega arith) (omega (arith, small))
 
--- the part behind a point is no longer than the digits
-pub part_short : (whole part digits : List ℕ) → digits ≡ whole ++ part → length digits ≤ 18 → length part ≤ 18
-part_short whole part digits is short = let both = ap length is ∙ length-append whole part in omega (arith, both, short)
+pub length_both : (whole part : List ℕ) → length (whole ++ part) ≡ length whole + length part
+length_both whole part = length-append whole part
 
 pub unit_fits : (n : ℕ) → n ≤ 18 → 10 ^ n < 2 ^ 64
 unit_fits n short = let most : 10 ^ n ≤ 10 ^ 18 = pow-le-pow_right (omega arith) short in omega (arith, most)
@@ -42,16 +41,17 @@ pub unit_some : (n : ℕ) → 0 < 10 ^ n
 unit_some n = one-le-pow n 10 (omega arith)
 
 -- the plain decimal form of a number that fits is read as it
-pub weight_read : (word : List ℕ) (n : ℕ) → word ≡ decimal n → n ≤ 4294967295 → plain_weight word ≡ Some n
-weight_read word n is fits =
-    let value : digits_value 10 word ≡ n = ap (digits_value 10) is ∙ (decimal_is_IsNumeral n (omega (arith, fits))).1 in
+pub number_read : (most : ℕ) (word : List ℕ) (n : ℕ) → word ≡ decimal n → n ≤ most → most < 2 ^ 64 → plain_number most word ≡ Some n
+number_read most word n is fits small =
+    let value : digits_value 10 word ≡ n = ap (digits_value 10) is ∙ (decimal_is_IsNumeral n (omega (arith, fits, small))).1 in
     let same : bytes_eq word (decimal (digits_value 10 word)) ≡ true = (bytes_eq-Decides word (decimal (digits_value 10 word))).1 (is ∙ ap decimal (sym value)) in
-    ap (λ (b : Bool). cond b (if_small (Some (digits_value 10 word))) None) same ∙ ap (λ (m : ℕ). if_small (Some m)) value ∙ ap (λ (b : Bool). cond b (Some n) None) (le-leb n 4294967295 fits)
+    ap (λ (b : Bool). cond (b && nat_le (digits_value 10 word) most) (Some (digits_value 10 word)) None) same ∙ ap (λ (m : ℕ). cond (nat_le m most) (Some m) None) value
+    ∙ ap (λ (b : Bool). cond b (Some n) None) (le-leb n most fits)
 
 -- and no other word is read
-pub none_read : (word : List ℕ) → ((n : ℕ) → n ≤ 4294967295 → word ≡ decimal n → ⊥) → plain_weight word ≡ None
-none_read word none = by (bytes_eq word (decimal (digits_value 10 word))) (nat_le (digits_value 10 word) 4294967295) refl refl where
-  by : (same small : Bool) → bytes_eq word (decimal (digits_value 10 word)) ≡ same → nat_le (digits_value 10 word) 4294967295 ≡ small → cond same (cond small (Some (digits_value 10 word)) None) None ≡ None
-  by true true is fits = absurd (none (digits_value 10 word) (leb-true (digits_value 10 word) 4294967295 fits) ((bytes_eq-Decides word (decimal (digits_value 10 word))).0 is))
+pub none_read : (most : ℕ) (word : List ℕ) → ((n : ℕ) → n ≤ most → word ≡ decimal n → ⊥) → plain_number most word ≡ None
+none_read most word none = by (bytes_eq word (decimal (digits_value 10 word))) (nat_le (digits_value 10 word) most) refl refl where
+  by : (same small : Bool) → bytes_eq word (decimal (digits_value 10 word)) ≡ same → nat_le (digits_value 10 word) most ≡ small → cond (same && small) (Some (digits_value 10 word)) None ≡ None
+  by true true is fits = absurd (none (digits_value 10 word) (leb-true (digits_value 10 word) most fits) ((bytes_eq-Decides word (decimal (digits_value 10 word))).0 is))
   by true false is fits = refl
   by false small is fits = refl

@@ -1,6 +1,7 @@
 -- Lines with commas, as the crate `csv` reads them by its defaults.
-use Rattle.std.specs.Prelude.{◌≡◌, ◌==◌, ◌++◌, ◌&&◌, ℕ, List, [], ◌∷◌, Bool, true, false, not, cond, Option, Some, None, is_some, map}
+use Rattle.std.specs.Prelude.{◌≡◌, ◌==◌, ◌++◌, ◌&&◌, ℕ, List, [], ◌∷◌, Bool, true, false, not, cond, Option, Some, is_some, map}
 use Rattle.std.specs.List.{list_any}
+use Rattle.std.specs.Option.{MatchOption, option_map_or}
 use Rattle.std.specs.Borrow.{Bor}
 use Rattle.std.specs.Char.{is_ascii_whitespace}
 use Rattle.csv.specs.Machine.{Read, next_record}
@@ -20,15 +21,9 @@ has_comma text = list_any (λ b. b == 44) text
 abbrev pub next : State → List ℕ → Option Read
 next state text = next_record default_config state [] [] text
 
--- these fields, where one record more comes, and none behind it
-abbrev pub before_last : List (List ℕ) → Option Read → List (List ℕ)
-before_last fields None = []
-before_last fields (Some last) = cond (is_some (next last.1 last.2)) [] fields
-
 -- the fields of the first of two records; none where there are not just two
 abbrev pub first_of_two : Option Read → List (List ℕ)
-first_of_two None = []
-first_of_two (Some first) = before_last first.0 (next first.1 first.2)
+first_of_two first = option_map_or (λ p. option_map_or (λ q. cond (is_some (next q.1 q.2)) [] p.0) (next p.1 p.2) []) first []
 
 -- The fields of the record that a line is: it and a line `,` behind it are read as two records. So no quoted field goes
 -- on behind the line. None where it isn't just one record.
@@ -64,5 +59,4 @@ pub record StandsAt (reader : Reader (Bor (List ℕ))) (at : State) (text : List
 
 -- what a reading of the next record gives, and where the reader is behind it
 abbrev pub GivesNext : Option Read → Bool → List (List ℕ) → Reader (Bor (List ℕ)) → Type 0
-GivesNext None found fields reader = found ≡ false
-GivesNext (Some p) found fields reader = (found ≡ true) × (fields ≡ p.0) × StandsAt reader p.1 p.2
+GivesNext given found fields reader = MatchOption given (found ≡ false) (λ p. (found ≡ true) × (fields ≡ p.0) × StandsAt reader p.1 p.2)

@@ -2,7 +2,7 @@
 use Rattle.std.specs.Prelude.{◌≡◌, ◌≢◌, ◌==◌, ◌+◌, ◌-◌, ◌*◌, ◌/◌, ◌^◌, ◌&&◌, ◌||◌, ℕ, List, [], ◌∷◌, ◌++◌, Bool, true, false, not, Option, Some, None, Result, Ok, Err, codes, cond, decimal, drop, is_some, length, nat_le, unwrap_or}
 use Rattle.std.specs.Char.{is_ascii_digit}
 use Rattle.std.specs.List.{flat_map, slice_get, slice_split}
-use Rattle.std.specs.Option.{option_and_then}
+use Rattle.std.specs.Option.{option_and_then, option_map_or}
 use Rattle.std.specs.Str.{bytes_eq, str_eq_ignore_ascii_case}
 use Rattle.std.specs.Str.Parse.{digits_value}
 use Rattle.std.specs.String.{string_bytes}
@@ -11,8 +11,6 @@ use Rattle.edge_rows.specs.declared.row.Row.{Row}
 use Rattle.edge_rows.specs.declared.forms.Writing.{Writing}
 use Rattle.edge_rows.specs.declared.forms.Writing.TheVariants.{Edges, Dimacs, Relations}
 use Rattle.edge_rows.specs.declared.forms.Heading.TheVariants.{ByWords, There, Absent}
-use Rattle.edge_rows.specs.declared.reading.Read.{Read}
-use Rattle.edge_rows.specs.declared.reading.Read.TheVariants.{Nothing, Row as ReadRow, Refused}
 use Rattle.edge_rows.specs.Labels.{are_digits, begins, begins_mark, is_name}
 use Rattle.edge_rows.specs.Records.{comma_fields, has_comma}
 
@@ -49,8 +47,7 @@ is_relation word = false
 
 -- the two networks, where behind them stands what is said of them, and at most one field more
 abbrev pub related : List (List ℕ) → List (List ℕ)
-related (a ∷ b ∷ relation ∷ []) = cond (is_relation relation) (a ∷ b ∷ []) []
-related (a ∷ b ∷ relation ∷ source ∷ []) = cond (is_relation relation) (a ∷ b ∷ []) []
+related (a ∷ b ∷ relation ∷ source) = cond (is_relation relation && nat_le (length source) 1) (a ∷ b ∷ []) []
 related parts = []
 
 -- the parts of a line of relations, which is one word; none where it isn't
@@ -89,14 +86,9 @@ is_heading commas (a ∷ b ∷ []) = heads_ends a b
 is_heading commas (a ∷ b ∷ c ∷ []) = begins_as_name c && (commas || heads_ends a b)
 is_heading commas fields = false
 
--- the words of a problem line of DIMACS: `p sp N M`, where M is digits
-abbrev pub is_problem : List (List ℕ) → Bool
-is_problem (mark ∷ kind ∷ nodes ∷ arcs ∷ []) = is_letter 112 mark && str_eq_ignore_ascii_case kind (codes "sp") && are_digits arcs
-is_problem words = false
-
--- in them the word for how many nodes there are
+-- the word for how many nodes there are, in those of a problem line of DIMACS: `p sp N M`, where M is digits
 abbrev pub nodes_word : List (List ℕ) → Option (List ℕ)
-nodes_word (mark ∷ kind ∷ nodes ∷ arcs ∷ []) = cond (is_problem (mark ∷ kind ∷ nodes ∷ arcs ∷ [])) (Some nodes) None
+nodes_word (mark ∷ kind ∷ nodes ∷ arcs ∷ []) = cond (is_letter 112 mark && str_eq_ignore_ascii_case kind (codes "sp") && are_digits arcs) (Some nodes) None
 nodes_word words = None
 
 -- a header, where it is the first line that isn't silent
@@ -104,7 +96,7 @@ abbrev pub is_head : Writing → List ℕ → Bool
 is_head (Edges ByWords scale) text = is_heading (has_comma text) (fields_of (Edges ByWords scale) text)
 is_head (Edges There scale) text = true
 is_head (Edges Absent scale) text = false
-is_head Dimacs text = not (has_comma text) && is_problem (words_of text)
+is_head Dimacs text = not (has_comma text) && is_some (nodes_word (words_of text))
 is_head Relations text = false
 
 -- how many lines stand in front of the first that may say an edge: lines that say nothing, and behind them a header
@@ -191,22 +183,21 @@ scaled_parts scale (whole ∷ []) = scaled_digits scale whole []
 scaled_parts scale (whole ∷ part ∷ []) = scaled_digits scale whole part
 scaled_parts scale parts = None
 
--- the number, where it is below 2 ^ 32, and so that of a word
-abbrev pub if_small : Option ℕ → Option ℕ
-if_small None = None
-if_small (Some weight) = cond (nat_le weight 4294967295) (Some weight) None
+-- the number, where it is below 2 ^ 32
+abbrev pub if_small : ℕ → Option ℕ
+if_small weight = cond (nat_le weight 4294967295) (Some weight) None
 
 abbrev pub scaled_weight : ℕ → List ℕ → Option ℕ
-scaled_weight scale word = if_small (scaled_parts scale (parts_at 46 word))
+scaled_weight scale word = option_and_then if_small (scaled_parts scale (parts_at 46 word))
 
--- the number below 2 ^ 32 that the word is the plain decimal form of: that which its digits write
-abbrev pub plain_weight : List ℕ → Option ℕ
-plain_weight word = cond (bytes_eq word (decimal (digits_value 10 word))) (if_small (Some (digits_value 10 word))) None
+-- the number up to `most` that the word is the plain decimal form of: that which its digits write
+abbrev pub plain_number : ℕ → List ℕ → Option ℕ
+plain_number most word = cond (bytes_eq word (decimal (digits_value 10 word)) && nat_le (digits_value 10 word) most) (Some (digits_value 10 word)) None
 
 -- the weight that stands behind the ends, or 1 if nothing does: as it is, or where there is a scale multiplied
 abbrev pub weight_said : Option ℕ → List (List ℕ) → Option ℕ
 weight_said scale [] = Some (unwrap_or scale 1)
-weight_said None (word ∷ []) = plain_weight word
+weight_said None (word ∷ []) = plain_number 4294967295 word
 weight_said (Some scale) (word ∷ []) = scaled_weight scale word
 weight_said scale (a ∷ b ∷ more) = None
 
@@ -220,47 +211,24 @@ abbrev pub row_said : Option ℕ → ℕ → List (List ℕ) → Option Said
 row_said scale line (a ∷ b ∷ behind) = row_by line a b (weight_said scale behind)
 row_said scale line fields = None
 
--- these in front of others, unless those are refused
-abbrev pub in_front : {B : Type 0} → List B → Result (List B) ℕ → Result (List B) ℕ
-in_front made (Ok more) = Ok (made ++ more)
-in_front made (Err number) = Err number
+-- the rest behind one step, unless that is refused
+abbrev pub then_by : {S T E : Type 0} → (S → Result T E) → Result S E → Result T E
+then_by rest (Ok state) = rest state
+then_by rest (Err why) = Err why
 
--- what is made of an item, in front of what is made of those behind it; or its number, where it is refused
-abbrev pub with_item : {B : Type 0} → Option (List B) → ℕ → Result (List B) ℕ → Result (List B) ℕ
-with_item None number behind = Err number
-with_item (Some made) number behind = in_front made behind
+-- what f makes of a state by each of these in turn, where they are numbered from that number on; or why it refuses one
+abbrev pub after_each : {S A E : Type 0} → (ℕ → A → S → Result S E) → ℕ → List A → S → Result S E
+after_each f number [] state = Ok state
+after_each f number (x ∷ xs) state = then_by (after_each f (number + 1) xs) (f number x state)
 
--- what f makes of each of these, one behind another, where they are numbered from that number on; or the number of the first that it refuses
-abbrev pub each_of : {A B : Type 0} → (ℕ → A → Option (List B)) → ℕ → List A → Result (List B) ℕ
-each_of f number [] = Ok []
-each_of f number (x ∷ xs) = with_item (f number x) number (each_of f (number + 1) xs)
-
--- one thing, where it is there
-abbrev pub alone : {B : Type 0} → Option B → Option (List B)
-alone None = None
-alone (Some x) = Some (x ∷ [])
-
--- what the line of that number says: nothing, or an edge; it is refused, where it says no edge though it should
-abbrev pub line_says : Writing → ℕ → List ℕ → Option (List Said)
-line_says writing line text = cond (says_nothing writing (words_of text)) (Some []) (alone (row_said (scale_of writing) line (fields_of writing text)))
+-- what the line of that number says behind others: nothing, or an edge; it is refused by its number, where it says no edge though it should
+abbrev pub with_line : Writing → ℕ → List ℕ → List Said → Result (List Said) ℕ
+with_line writing line text said =
+    cond (says_nothing writing (words_of text)) (Ok said) (option_map_or (λ row. Ok (said ++ row ∷ [])) (row_said (scale_of writing) line (fields_of writing text)) (Err line))
 
 -- what the lines of a text say behind those that stand in front of edges, or the number of the first that is refused
 abbrev pub text_says : Writing → List ℕ → Result (List Said) ℕ
-text_says writing text = each_of (line_says writing) (lead writing (lines_of text) + 1) (drop (lead writing (lines_of text)) (lines_of text))
-
--- the text is a list of edges in this form, and says that
-abbrev pub SaysEdges : Writing → List ℕ → List Said → Type 0
-SaysEdges writing text said = text_says writing text ≡ Ok said
-
--- the line of that number is the first of the text that says no edge, though it should
-abbrev pub IsRefusedAt : Writing → List ℕ → ℕ → Type 0
-IsRefusedAt writing text number = text_says writing text ≡ Err number
-
--- what a line says that was read
-abbrev pub said_by : Read → Option (List Said)
-said_by Nothing = Some []
-said_by (ReadRow row) = Some (row_of row ∷ [])
-said_by (Refused form) = None
+text_says writing text = after_each (with_line writing) (lead writing (lines_of text) + 1) (drop (lead writing (lines_of text)) (lines_of text)) []
 
 -- ---- how the forms are told apart
 
@@ -273,7 +241,7 @@ are_some (field ∷ fields) = true
 -- parts of a relation, which is no comment.
 abbrev pub form_by : List (List ℕ) → Option Writing
 form_by words =
-    cond (are_some (arc_fields words) || is_problem words) (Some Dimacs)
+    cond (are_some (arc_fields words) || is_some (nodes_word words)) (Some Dimacs)
     (cond (are_some (related (relation_parts words)) && not (says_nothing Relations words)) (Some Relations) None)
 
 -- the same of a line, which has no comma
@@ -293,4 +261,4 @@ IsPlain Relations = Unit {0}
 
 -- in no other form the text says edges
 abbrev pub IsAlone : List ℕ → Writing → Type 0
-IsAlone text form = (writing : Writing) (said : List Said) → IsPlain writing → SaysEdges writing text said → said ≢ [] → writing ≡ form
+IsAlone text form = (writing : Writing) (said : List Said) → IsPlain writing → text_says writing text ≡ Ok said → said ≢ [] → writing ≡ form

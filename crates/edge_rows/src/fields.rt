@@ -56,8 +56,7 @@ pub(crate) fn words_in<'a>(alloc: Global, text: &'a str) -> Tried<Vec<&'a str>>
     let parts = parts_in(alloc, text, ' ')?;
     let smaller = cut_each(alloc, &parts, '\t')?;
     let smallest = cut_each(alloc, &smaller, '\r')?;
-    let words = kept(alloc, &smallest)?;
-    Ok(words)
+    kept(alloc, &smallest)
 }
 
 /// Whether a comma stands in a line.
@@ -113,6 +112,7 @@ fn raw_record(alloc: Global, text: &str) -> Tried<StringRecord>
 }
 
 /// The fields of a record.
+#[tactic(auto, using(std::proofs::lemmas::Grind::common_steps, crate::proofs::RecordLemmas::fields_from))]
 pub(crate) fn texts_in<'a>(alloc: Global, row: &'a StringRecord) -> Tried<Vec<&'a str>>
     ensures { IfOk result (λ fields. texts_of fields.items ≡ record_fields row.entry.now) }
 {

@@ -3,7 +3,7 @@ ghost use Rattle.std.specs.Prelude.{◌≡◌, IfOk};
 ghost use Rattle.std.specs.Option.{option_map};
 ghost use Rattle.std.specs.Str.{str_eq_ignore_ascii_case};
 ghost use Rattle.value_syntax.specs.Reading.{texts_of};
-ghost use Rattle.edge_rows.specs.Rows.{IsAlone, arc_fields, form_at, form_by, is_letter, is_problem, is_relation, nodes_word, related, relation_parts, says_nothing, scale_of, words_of};
+ghost use Rattle.edge_rows.specs.Rows.{IsAlone, arc_fields, form_at, form_by, is_letter, is_relation, nodes_word, related, relation_parts, says_nothing, scale_of, words_of};
 
 use crate::Tried;
 use crate::fields::{has_comma, parts_in, words_in};
@@ -55,6 +55,7 @@ pub(crate) fn is_letter(letter: u8, word: &str) -> bool
 }
 
 /// Whether a text is a word, in either case.
+#[tactic(auto, using(crate::proofs::RowLemmas::test_by))]
 pub(crate) fn reads_as(text: &str, word: &str) -> bool
     ensures { result ≡ str_eq_ignore_ascii_case text.now word.now }
 {
@@ -83,24 +84,15 @@ pub(crate) fn is_silent(alloc: Global, writing: Writing, text: &str) -> Tried<bo
     Ok(is_nothing(writing, &words))
 }
 
-/// Whether these are the words of a problem line.
-pub(crate) fn is_problem(words: &[&str]) -> bool
-    ensures { result ≡ is_problem (texts_of words.now) }
-{
-    match words {
-        [mark, kind, _, arcs] => {
-            is_letter(b'p', *mark) && reads_as(*kind, "sp") && are_digits(*arcs)
-        }
-        _ => false,
-    }
-}
-
 /// The word for how many nodes there are, in those of a problem line.
 pub(crate) fn nodes_word<'a>(words: &[&'a str]) -> Option<&'a str>
     ensures { option_map (λ word. word.now) result ≡ nodes_word (texts_of words.entry.now) }
 {
     match words {
-        [_, _, nodes, _] if is_problem(words) => Some(*nodes),
+        [mark, kind, nodes, arcs]
+            if is_letter(b'p', *mark) && reads_as(*kind, "sp") && are_digits(*arcs) => {
+            Some(*nodes)
+        }
         _ => None,
     }
 }
@@ -141,8 +133,7 @@ pub(crate) fn related<'a, 'b>(parts: &'a [&'b str]) -> &'a [&'b str]
     ensures { texts_of result.now ≡ related (texts_of parts.entry.now) }
 {
     match parts {
-        [_, _, relation] if is_relation(*relation) => &parts[..2],
-        [_, _, relation, _] if is_relation(*relation) => &parts[..2],
+        [_, _, relation, source @ ..] if is_relation(*relation) && source.len() <= 1 => &parts[..2],
         _ => &parts[..0],
     }
 }
@@ -151,7 +142,7 @@ pub(crate) fn related<'a, 'b>(parts: &'a [&'b str]) -> &'a [&'b str]
 fn form_by(alloc: Global, words: &[&str]) -> Tried<Option<Writing>>
     ensures { IfOk result (λ form. form ≡ form_by (texts_of words.now)) }
 {
-    if !arc_fields(words).is_empty() || is_problem(words) {
+    if !arc_fields(words).is_empty() || nodes_word(words).is_some() {
         return Ok(Some(Writing::Dimacs));
     }
     let parts = relation_parts(alloc, words)?;
@@ -169,8 +160,7 @@ fn form_at(alloc: Global, text: &str) -> Tried<Option<Writing>>
         return Ok(None);
     }
     let words = words_in(alloc, text)?;
-    let form = form_by(alloc, &words)?;
-    Ok(form)
+    form_by(alloc, &words)
 }
 
 /// The form of the first line that no edge list has, and an edge list where all lines may be one's: a text that says edges in
@@ -180,9 +170,8 @@ pub fn form_of(alloc: Global, text: &str) -> Tried<Writing>
 {
     let texts = lines_in(alloc, text)?;
     for index in 0..texts.len() {
-        match form_at(alloc, texts[index])? {
-            Some(writing) => return Ok(writing),
-            None => {}
+        if let Some(writing) = form_at(alloc, texts[index])? {
+            return Ok(writing);
         }
     }
     Ok(Writing::Edges(Heading::ByWords, None))

@@ -7,7 +7,7 @@ ghost use Rattle.edge_rows.specs.Rows.{begins_as_name, count_line, count_word, c
 
 use crate::Tried;
 use crate::fields::{fields_in, has_comma, parts_in, texts_in, words_in};
-use crate::forms::{Heading, Writing, is_letter, is_problem, is_silent, nodes_word, reads_as};
+use crate::forms::{Heading, Writing, is_letter, is_silent, nodes_word, reads_as};
 use std::alloc::Global;
 use value_syntax::lines_in;
 
@@ -49,7 +49,7 @@ fn is_head(alloc: Global, writing: Writing, text: &str) -> Tried<bool>
         Writing::Relations => Ok(false),
         Writing::Dimacs => {
             let words = words_in(alloc, text)?;
-            Ok(!has_comma(text) && is_problem(&words))
+            Ok(!has_comma(text) && nodes_word(&words).is_some())
         }
         Writing::Edges(Heading::ByWords, _) => {
             let record = fields_in(alloc, writing, text)?;

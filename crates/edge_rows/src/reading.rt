@@ -1,10 +1,12 @@
 // Reading edges.
-ghost use Rattle.std.specs.Prelude.{◌≡◌, ◌<◌, ◌≤◌, IfOk, length, map, true};
+ghost use Rattle.std.specs.Prelude.{◌≡◌, ◌<◌, ◌≤◌, Err, IfOk, Ok, length, map, true};
+ghost use Rattle.std.specs.Option.{option_map};
+ghost use Rattle.std.specs.Result.{result_ok};
 ghost use Rattle.std.specs.Str.Parse.{digits_value};
 ghost use Rattle.value_syntax.specs.Reading.{texts_of};
 ghost use Rattle.edge_rows.specs.Labels.{are_digits};
-ghost use Rattle.edge_rows.specs.Reading.{IfAccepted, IfRefused};
-ghost use Rattle.edge_rows.specs.Rows.{IsRefusedAt, SaysEdges, alone, line_says, nearest, plain_weight, row_of, row_said, said_by, scale_of, scaled_digits, scaled_parts, scaled_weight, weight_said};
+ghost use Rattle.edge_rows.specs.Reading.{IfAccepted, IfNoneRead, IfRefused, OnRead};
+ghost use Rattle.edge_rows.specs.Rows.{nearest, plain_number, row_of, row_said, scale_of, scaled_digits, scaled_parts, scaled_weight, text_says, weight_said, with_line};
 
 use crate::fields::{fields_in, parts_in, texts_in};
 use crate::forms::{Writing, is_silent, scale_of};
@@ -16,43 +18,47 @@ use std::alloc::Global;
 use value_syntax::{lines_in, number};
 
 /// The rows of a text in this form, or its first line that says no edge.
+#[tactic(auto, using(crate::proofs::RowLemmas::drop_texts))]
 pub fn read_rows(alloc: Global, text: &str, writing: Writing) -> Judged<Vec<Row>, LineRefused>
-    ensures found { IfAccepted result (λ rows. SaysEdges writing text.now (map row_of rows.items)) }
-    ensures refused { IfRefused result (λ refused. IsRefusedAt writing text.now refused.number) }
+    ensures found { IfAccepted result (λ rows. text_says writing text.now ≡ Ok (map row_of rows.items)) }
+    ensures refused { IfRefused result (λ refused. text_says writing text.now ≡ Err refused.number) }
 {
     let texts = lines_in(alloc, text)?;
     let before = lines_before(alloc, writing, &texts)?;
     let mut rows = Vec::new(alloc);
     for index in before..texts.len() {
         let number = index + 1;
-        match read_one(alloc, writing, number, texts[index])? {
-            Read::Nothing => {}
-            Read::Row(row) => rows.push(row)?,
-            Read::Refused(form) => return Ok(Err(LineRefused { number, form })),
+        if let Some(form) = take_line(alloc, &mut rows, writing, number, texts[index])? {
+            return Ok(Err(LineRefused { number, form }));
         }
     }
     Ok(Ok(rows))
 }
 
-/// What one line of a text is.
-#[derive(Drop)]
-pub(crate) enum Read {
-    Nothing,
-    Row(Row),
-    /// It says no edge.
-    Refused(Form),
-}
-
-fn read_one(alloc: Global, writing: Writing, line: usize, text: &str) -> Tried<Read>
-    ensures { IfOk result (λ read. said_by read ≡ line_says writing line text.now) }
+// Takes what a line says, or answers what it should have been.
+fn take_line(
+    alloc: Global,
+    rows: &mut Vec<Row>,
+    writing: Writing,
+    line: usize,
+    text: &str,
+) -> Tried<Option<Form>>
+    ensures taken { IfNoneRead result
+        (with_line writing line text.now (map row_of rows.old.items) ≡ Ok (map row_of rows.new.items)) }
+    ensures refused { OnRead result (with_line writing line text.now (map row_of rows.old.items) ≡ Err line) }
 {
     if is_silent(alloc, writing, text)? {
-        return Ok(Read::Nothing);
+        return Ok(None);
     }
     let record = fields_in(alloc, writing, text)?;
     let fields = texts_in(alloc, &record)?;
-    let read = read_fields(alloc, writing, line, &fields)?;
-    Ok(read)
+    match row_in(alloc, writing, line, &fields)? {
+        Ok(row) => {
+            rows.push(row)?;
+            Ok(None)
+        }
+        Err(form) => Ok(Some(form)),
+    }
 }
 
 // What a line of a form should have been that has so many fields.
@@ -65,24 +71,24 @@ fn form_in(writing: Writing, fields: usize) -> Form {
     }
 }
 
-// What a line of these fields is, where it says something.
-fn read_fields(alloc: Global, writing: Writing, line: usize, fields: &[&str]) -> Tried<Read>
-    ensures { IfOk result (λ read. said_by read ≡ alone (row_said (scale_of writing) line (texts_of fields.now))) }
+// What a line of these fields says, or what it should have been.
+fn row_in(alloc: Global, writing: Writing, line: usize, fields: &[&str]) -> Judged<Row, Form>
+    ensures { IfOk result (λ row. option_map row_of (result_ok row) ≡ row_said (scale_of writing) line (texts_of fields.now)) }
 {
     let form = form_in(writing, fields.len());
     let [a, b, behind @ ..] = fields else {
-        return Ok(Read::Refused(form));
+        return Ok(Err(form));
     };
     let Some(weight) = weight_in(alloc, scale_of(writing), behind)? else {
-        return Ok(Read::Refused(if behind.len() > 1 { form } else { Form::Weight }));
+        return Ok(Err(if behind.len() > 1 { form } else { Form::Weight }));
     };
     if !is_name(*a) || !is_name(*b) {
         let empty = a.is_empty() || b.is_empty();
-        return Ok(Read::Refused(if empty { form } else { Form::Name }));
+        return Ok(Err(if empty { form } else { Form::Name }));
     }
     let a = String::from_str(alloc, *a)?;
     let b = String::from_str(alloc, *b)?;
-    Ok(Read::Row(Row { line, a, b, weight }))
+    Ok(Ok(Row { line, a, b, weight }))
 }
 
 // The weight that stands behind the ends.
@@ -99,9 +105,9 @@ fn weight_in(alloc: Global, scale: Option<u32>, fields: &[&str]) -> Tried<Option
     }
 }
 
-#[tactic(auto, using(crate::proofs::WeightLemmas::weight_read, crate::proofs::WeightLemmas::none_read))]
+#[tactic(auto, using(crate::proofs::WeightLemmas::number_read, crate::proofs::WeightLemmas::none_read))]
 fn plain_weight(alloc: Global, word: &str) -> Tried<Option<u32>>
-    ensures { IfOk result (λ weight. weight ≡ plain_weight word.now) }
+    ensures { IfOk result (λ weight. weight ≡ plain_number 4294967295 word.now) }
 {
     match number(alloc, word, 4_294_967_295)? {
         Some(weight) => Ok(Some(weight as u32)),
@@ -131,6 +137,7 @@ fn scaled_parts(alloc: Global, scale: u32, parts: &[&str]) -> Tried<Option<u128>
     }
 }
 
+#[tactic(auto, using(crate::proofs::WeightLemmas::length_both, crate::proofs::WeightLemmas::unit_fits, crate::proofs::WeightLemmas::unit_some))]
 fn scaled_digits(alloc: Global, scale: u32, whole: &str, part: &str) -> Tried<Option<u128>>
     ensures { IfOk result (λ number. number ≡ scaled_digits scale whole.now part.now) }
 {

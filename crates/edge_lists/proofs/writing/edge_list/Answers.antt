@@ -7,9 +7,11 @@ use Rattle.std.proofs.lemmas.List.Elements.{All-push}
 use Rattle.edge_lists.specs.declared.edge.Edge.{Edge}
 use Rattle.edge_lists.specs.Written.{FitTypes, edge_text, edges_text, head_lines, names_text}
 use Rattle.value_syntax.specs.Reading.{texts_of}
-use Rattle.edge_lists.proofs.OnceLemmas.{no_edge}
 use Rattle.edge_lists.proofs.WrittenLemmas.{labels_texts, list_read}
 use Rattle.edge_lists.proofs.writing.edge_list.Goals as goal
+
+abbrev no_edge : Edge
+no_edge = record { line = 0; a = 0; b = 0; weight = 0 }
 
 pub loop-edge-preserved : goal.loop-edge-preserved
 loop-edge-preserved c =
