@@ -26,23 +26,12 @@ pub fn grammar<'a>(alloc: Global) -> Result<Command<'a>, AllocError>
         .default_value("4096")
         .value_parser(value_parser!(u32).range(1..))
         .requires_arg("every-stop")?;
-    command(
-        alloc,
-        "rehearse",
-        "Runs lives of a device that FILE asks for, and prints what they were answered",
-        &[
-            word(
-                "file",
-                "FILE",
-                "A rehearsal: device N, life .., and events, a line each",
-            ),
-            flag(
-                "every-stop",
-                "Tries the last life with its device stopped at each call, and counts what came back",
-            ),
-        ],
-    )?
-    .arg(most)
+    let about = "Runs lives of a device that FILE asks for, and prints what they were answered";
+    let file = "A rehearsal: device N, life .., and events, a line each";
+    let stops =
+        "Tries the last life with its device stopped at each call, and counts what came back";
+    let said = [word("file", "FILE", file), flag("every-stop", stops)];
+    command(alloc, "rehearse", about, &said)?.arg(most)
 }
 
 /// Runs the rehearsal that these matches name, and answers the exit status.

@@ -15,7 +15,7 @@ use std::cell::RefCell;
 use std::io::{IsTerminal, Write};
 
 /// What is asked for of a rehearsal.
-#[derive(Clone, Copy, Debug, PartialEq, Eq, Drop)]
+#[derive(Clone, Copy, Drop)]
 pub enum Asked {
     /// What its lives were answered.
     Report,
@@ -24,7 +24,7 @@ pub enum Asked {
 }
 
 /// Why nothing, or not all, is printed of a rehearsal.
-#[derive(Clone, Copy, Debug, PartialEq, Eq, Drop)]
+#[derive(Clone, Copy, Drop)]
 pub enum NotRehearsed {
     /// The first line that isn't understood.
     Line(LineRefused),
@@ -41,26 +41,6 @@ impl From<AllocError> for NotRehearsed {
 
     fn from(_: AllocError) -> Self {
         NotRehearsed::Print(PrintRefused::Memory)
-    }
-}
-
-impl From<RehearseRefused> for NotRehearsed {
-    ghost use Rattle.lab_rehearsals.specs.declared.told.NotRehearsed.TheVariants.{Lives};
-
-    ghost from_gives = { λ refused e. e ≡ Lives refused };
-
-    fn from(refused: RehearseRefused) -> Self {
-        NotRehearsed::Lives(refused)
-    }
-}
-
-impl From<PrintRefused> for NotRehearsed {
-    ghost use Rattle.lab_rehearsals.specs.declared.told.NotRehearsed.TheVariants.{Print};
-
-    ghost from_gives = { λ refused e. e ≡ Print refused };
-
-    fn from(refused: PrintRefused) -> Self {
-        NotRehearsed::Print(refused)
     }
 }
 
@@ -85,7 +65,7 @@ pub fn rehearse_text<O: Write, E: Write + IsTerminal>(
         Err(refused) => return Err(NotRehearsed::Line(refused)),
     };
     let told = told_of_lines(alloc, lines, asked, err)?;
-    print(out, told.as_bytes())?;
+    print(out, told.as_bytes()).map_err(NotRehearsed::Print)?;
     Ok(())
 }
 
@@ -102,7 +82,9 @@ fn told_of_lines<E: Write + IsTerminal>(
     ensures refused { IfErr result (λ refused. IsNotRun refused) }
 {
     match lives_of(alloc, lines)? {
-        Some(rehearsal) => Ok(told_of(alloc, rehearsal, asked, err)?),
+        Some(rehearsal) => {
+            Ok(told_of(alloc, rehearsal, asked, err).map_err(NotRehearsed::Lives)?)
+        }
         None => Ok(String::new(alloc)),
     }
 }

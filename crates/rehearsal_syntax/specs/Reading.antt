@@ -1,15 +1,16 @@
 -- What the readers of a rehearsal's lines promise.
-use Rattle.std.specs.Prelude.{◌≡◌, ℕ, List, IfOk, IsSome, Option, Result}
-use Rattle.value_syntax.specs.Reading.{IfRead}
+use Rattle.std.specs.Prelude.{◌≡◌, IfErr, IfOk, Result}
+use Rattle.rehearsal_syntax.specs.declared.line_reading.NotRead.{NotRead}
+use Rattle.rehearsal_syntax.specs.declared.line_reading.NotRead.TheVariants.{Memory}
 
--- unless there is an error, something is read
-abbrev pub ReadsSome : {A E : Type 0} → Result (Option A) E → Type 0
-ReadsSome result = IfOk result (λ o. IsSome o)
+-- unless memory ran out, something is read
+abbrev pub IsRead : {A : Type 0} → Result A NotRead → Type 0
+IsRead result = IfErr result (λ e. e ≡ Memory)
 
--- what is read fits, and the words are its words
-abbrev pub FindsOnly : {A E : Type 0} → (A → Type 0) → (A → List (List ℕ)) → List (List ℕ) → Result (Option A) E → Type 0
-FindsOnly Fits its_words words result = IfRead result (λ a. (words ≡ its_words a) × Fits a)
+-- what is read fits, and is written so
+abbrev pub Finds : {A W : Type 0} → (A → Type 0) → (A → W) → W → Result A NotRead → Type 0
+Finds Fits written text result = IfOk result (λ a. (text ≡ written a) × Fits a)
 
--- where the words are those of anything that fits, something is read
-abbrev pub ReadsEach : {A B E : Type 0} → (A → Type 0) → (A → List (List ℕ)) → List (List ℕ) → Result (Option B) E → Type 0
-ReadsEach {A} Fits its_words words result = (a : A) → Fits a → words ≡ its_words a → ReadsSome result
+-- where anything that fits is written so, something is read
+abbrev pub ReadsEach : {A B W : Type 0} → (A → Type 0) → (A → W) → W → Result B NotRead → Type 0
+ReadsEach {A} Fits written text result = (a : A) → Fits a → text ≡ written a → IsRead result

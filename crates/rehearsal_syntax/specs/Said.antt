@@ -1,6 +1,6 @@
 -- What the lines of a text say.
-use Rattle.std.specs.Prelude.{◌≡◌, ◌==◌, ◌≤◌, ◌-◌, ℕ, List, [], ◌∷◌, ◌++◌, length, map, not, take}
-use Rattle.std.specs.List.{before_first, filter, flat_map}
+use Rattle.std.specs.Prelude.{◌≡◌, ◌==◌, ◌≤◌, ◌-◌, ℕ, Bool, List, ◌++◌, length, map, not, take}
+use Rattle.std.specs.List.{before_first, filter}
 use Rattle.value_syntax.specs.Scripts.{words_of as parts_of}
 use Rattle.rehearsal_syntax.specs.declared.line.RehearsalLine.{RehearsalLine}
 use Rattle.rehearsal_syntax.specs.Grammar.{IsRehearsal, line_words}
@@ -9,22 +9,20 @@ use Rattle.rehearsal_syntax.specs.Grammar.{IsRehearsal, line_words}
 abbrev pub bare : List ℕ → List ℕ
 bare text = before_first (λ b. b == 35) text
 
+abbrev pub isnt_empty : {A : Type 0} → List A → Bool
+isnt_empty xs = not (length xs == 0)
+
 -- the words of a line: what stands between blanks, where something does
 abbrev pub words_of : List ℕ → List (List ℕ)
-words_of text = filter (λ part. not (length part == 0)) (parts_of (bare text))
+words_of text = filter isnt_empty (parts_of (bare text))
 
--- the item, where it isn't empty
-abbrev pub unless_empty : {A : Type 0} → List A → List (List A)
-unless_empty [] = []
-unless_empty (x ∷ xs) = (x ∷ xs) ∷ []
-
--- the words of a line that has one
-abbrev pub said_by : List ℕ → List (List (List ℕ))
-said_by text = unless_empty (words_of text)
+-- the words of the lines that have one
+abbrev pub said : List (List ℕ) → List (List (List ℕ))
+said texts = filter isnt_empty (map words_of texts)
 
 -- these lines say that: lines without a word say nothing
 abbrev pub Say : List (List ℕ) → List RehearsalLine → Type 0
-Say texts lines = flat_map said_by texts ≡ map line_words lines
+Say texts lines = said texts ≡ map line_words lines
 
 -- these lines say that, and are a rehearsal
 abbrev pub SayRehearsal : List (List ℕ) → List RehearsalLine → Type 0

@@ -21,22 +21,13 @@ pub struct LifeLine {
 #[derive(Debug, PartialEq, Eq, Drop)]
 pub enum RehearsalLine {
     /// A device for so many nodes. Written `device N`.
-    Device {
-        nodes: u16,
-    },
+    Device(u16),
     /// A life begins. Written `life sessions=S places=Q words=W crash=K`, with `fail=C` or `stop=C:B` before `crash`, or neither.
     Life(LifeLine),
-    /// Written `submit S T OP..`.
-    Submit {
-        session: u8,
-        ticket: u64,
-        change: Change,
-    },
-    /// Written `look S A`.
-    Look {
-        session: u8,
-        at: u64,
-    },
+    /// A session submits a change under a ticket. Written `submit S T OP..`.
+    Submit(u8, u64, Change),
+    /// A session looks, at so many postings. Written `look S A`.
+    Look(u8, usize),
     /// Written `take`.
     Take,
     /// Written `commit`.
@@ -44,18 +35,9 @@ pub enum RehearsalLine {
     /// Written `post`.
     Post,
     /// Written `rebuild W`.
-    Rebuild {
-        words: LandmarkWords,
-    },
-    /// Written `launch F T A`.
-    Launch {
-        from: u16,
-        to: u16,
-        at: u64,
-    },
-    /// Written `hop P A`.
-    Hop {
-        packet: u64,
-        at: u64,
-    },
+    Rebuild(LandmarkWords),
+    /// A packet goes from a node to another, sent at so many postings. Written `launch F T A`.
+    Launch(u16, u16, usize),
+    /// A packet goes on, at so many postings. Written `hop P A`.
+    Hop(usize, usize),
 }

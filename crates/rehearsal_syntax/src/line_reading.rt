@@ -1,306 +1,231 @@
 // Reading one line.
-ghost use Rattle.std.specs.Prelude.{◌≡◌, ◌<◌, ◌≤◌, ◌^◌, ◌∷◌, ◌++◌, [], ℕ, List, IfSome, IsSome, IsSomeAnd, codes, decimal, map};
+ghost use Rattle.std.specs.Prelude.{◌≡◌, ◌<◌, ◌≤◌, ◌^◌, ◌∷◌, ◌++◌, [], ℕ, List, IfOk, IsOkAnd, codes, decimal};
 ghost use Rattle.disk_trait.specs.declared.plan.Plan.{Plan};
-ghost use Rattle.graph_edits.specs.declared.edits.Op.{Op};
-ghost use Rattle.value_syntax.specs.OpText.{op_text, pair_text};
-ghost use Rattle.value_syntax.specs.Reading.{IfRead, Reads, texts_of};
-ghost use Rattle.value_syntax.specs.Scripts.{IsChange};
+ghost use Rattle.value_syntax.specs.Reading.{texts_of};
 ghost use Rattle.value_syntax.specs.WordsText.{words_text};
-ghost use Rattle.rehearsal_syntax.specs.Grammar.{AreOfDevice, FitsPlan, IsFew, IsLife, MayStand, MayStandAnywhere, end_words, life_fields, line_words, pair_words, plan_words};
-ghost use Rattle.rehearsal_syntax.specs.Reading.{FindsOnly, ReadsEach, ReadsSome};
+ghost use Rattle.rehearsal_syntax.specs.Grammar.{AreOfDevice, FitsPlan, IsLife, MayStand, MayStandAnywhere, end_words, life_fields, line_words, pair_words, plan_words};
+ghost use Rattle.rehearsal_syntax.specs.Reading.{Finds, IsRead, ReadsEach};
 
 use crate::line::{LifeLine, RehearsalLine};
+use crate::refused::Form;
 use crate::stage::Stage;
 use disk_trait::Plan;
-use graph_edits::Change;
 use std::alloc::{AllocError, Global};
-use value_syntax::{LandmarkWords, change_in, landmark_words, node, number};
+use value_syntax::{LandmarkWords, change_in, landmark_words, number};
+
+/// Why a line isn't read.
+#[derive(Drop)]
+pub(crate) enum NotRead {
+    /// No line may stand there that is written so. It should have been this.
+    Form(Form),
+    /// Memory ran out.
+    Memory,
+}
+
+impl From<AllocError> for NotRead {
+    ghost use Rattle.rehearsal_syntax.specs.declared.line_reading.NotRead.TheVariants.{Memory};
+
+    ghost from_gives = { λ _ e. e ≡ Memory };
+
+    fn from(_: AllocError) -> Self {
+        NotRead::Memory
+    }
+}
 
 /// The line of these words, where one may stand behind what the lines so far have.
-pub(crate) fn line_in(
-    alloc: Global,
-    stage: Stage,
-    words: &[&str],
-) -> Result<Option<RehearsalLine>, AllocError>
-    ensures found { FindsOnly (MayStand stage) line_words (texts_of words.now) result }
+pub(crate) fn line_in(alloc: Global, stage: Stage, words: &[&str]) -> Result<RehearsalLine, NotRead>
+    ensures found { Finds (MayStand stage) line_words (texts_of words.now) result }
     ensures only { ReadsEach (MayStand stage) line_words (texts_of words.now) result }
 {
     let Some((first, rest)) = words.split_first() else {
-        return Ok(None);
+        return Err(NotRead::Form(Form::Line));
     };
     match stage {
         Stage::Empty if *first == "device" => device_in(alloc, rest),
+        Stage::Empty => Err(NotRead::Form(Form::Device)),
         Stage::Made(nodes) if *first == "life" => life_in(alloc, rest, nodes),
-        Stage::Empty | Stage::Made(_) => Ok(None),
+        Stage::Made(_) => Err(NotRead::Form(Form::Life)),
         Stage::Living(nodes) => living_in(alloc, *first, rest, nodes),
     }
 }
 
-fn device_in(alloc: Global, rest: &[&str]) -> Result<Option<RehearsalLine>, AllocError>
-    ensures found { FindsOnly (MayStand Stage.Empty) line_words (codes "device" ∷ texts_of rest.now) result }
-    ensures only { (n : ℕ) → 1 ≤ n → n ≤ 16384 → texts_of rest.now ≡ decimal n ∷ [] → ReadsSome result }
+fn device_in(alloc: Global, rest: &[&str]) -> Result<RehearsalLine, NotRead>
+    ensures found { Finds (MayStand Stage.Empty) line_words (codes "device" ∷ texts_of rest.now) result }
+    ensures only { (n : ℕ) → 1 ≤ n → n ≤ 16384 → texts_of rest.now ≡ decimal n ∷ [] → IsRead result }
 {
     let [nodes] = rest else {
-        return Ok(None);
+        return Err(NotRead::Form(Form::Device));
     };
-    match number(alloc, nodes, 16_384)? {
-        Some(n) if n >= 1 => Ok(Some(RehearsalLine::Device { nodes: n as u16 })),
-        _ => Ok(None),
-    }
+    let nodes = number_in(alloc, Form::Device, nodes, 1, 16_384)?;
+    Ok(RehearsalLine::Device(nodes as u16))
 }
 
-fn living_in(
-    alloc: Global,
-    name: &str,
-    rest: &[&str],
-    nodes: u16,
-) -> Result<Option<RehearsalLine>, AllocError>
-    ensures found { FindsOnly (MayStand (Stage.Living nodes)) line_words (name.now ∷ texts_of rest.now) result }
+// The same behind a life.
+fn living_in(alloc: Global, name: &str, rest: &[&str], nodes: u16) -> Result<RehearsalLine, NotRead>
+    ensures found { Finds (MayStand (Stage.Living nodes)) line_words (name.now ∷ texts_of rest.now) result }
     ensures only { ReadsEach (MayStand (Stage.Living nodes)) line_words (name.now ∷ texts_of rest.now) result }
 {
     match name {
         "life" => life_in(alloc, rest, nodes),
-        "submit" => submit_in(alloc, rest),
-        "look" => look_in(alloc, rest),
-        "rebuild" => rebuild_in(alloc, rest, nodes),
+        "submit" => {
+            let [session, ticket, ops @ ..] = rest else {
+                return Err(NotRead::Form(Form::Submit));
+            };
+            let session = number_in(alloc, Form::Submit, session, 0, 255)?;
+            let ticket = number_in(alloc, Form::Submit, ticket, 0, u64::MAX)?;
+            match change_in(alloc, ops)? {
+                Some(change) => Ok(RehearsalLine::Submit(session as u8, ticket, change)),
+                None => Err(NotRead::Form(Form::Submit)),
+            }
+        }
+        "look" => {
+            let [session, at] = rest else {
+                return Err(NotRead::Form(Form::Look));
+            };
+            let session = number_in(alloc, Form::Look, session, 0, 255)?;
+            let at = number_in(alloc, Form::Look, at, 0, u64::MAX)?;
+            Ok(RehearsalLine::Look(session as u8, at as usize))
+        }
+        "take" if rest.is_empty() => Ok(RehearsalLine::Take),
+        "commit" if rest.is_empty() => Ok(RehearsalLine::Commit),
+        "post" if rest.is_empty() => Ok(RehearsalLine::Post),
+        "take" | "commit" | "post" => Err(NotRead::Form(Form::Step)),
+        "rebuild" => {
+            let [words] = rest else {
+                return Err(NotRead::Form(Form::Rebuild));
+            };
+            let words = words_in(alloc, Form::Rebuild, words, nodes)?;
+            Ok(RehearsalLine::Rebuild(words))
+        }
         "launch" => launch_in(alloc, rest),
-        "hop" => hop_in(alloc, rest),
-        _ => Ok(step_in(name, rest)),
+        "hop" => {
+            let [packet, at] = rest else {
+                return Err(NotRead::Form(Form::Hop));
+            };
+            let packet = number_in(alloc, Form::Hop, packet, 0, u64::MAX)?;
+            let at = number_in(alloc, Form::Hop, at, 0, u64::MAX)?;
+            Ok(RehearsalLine::Hop(packet as usize, at as usize))
+        }
+        _ => Err(NotRead::Form(Form::Line)),
     }
 }
 
-// A step of the committer.
-fn step_in(name: &str, rest: &[&str]) -> Option<RehearsalLine>
-    ensures found { IfSome result (λ line. (name.now ∷ texts_of rest.now ≡ line_words line) × MayStandAnywhere line) }
-    ensures take { name.now ∷ texts_of rest.now ≡ codes "take" ∷ [] → IsSome result }
-    ensures commit { name.now ∷ texts_of rest.now ≡ codes "commit" ∷ [] → IsSome result }
-    ensures post { name.now ∷ texts_of rest.now ≡ codes "post" ∷ [] → IsSome result }
-{
-    if !rest.is_empty() {
-        return None;
-    }
-    match name {
-        "take" => Some(RehearsalLine::Take),
-        "commit" => Some(RehearsalLine::Commit),
-        "post" => Some(RehearsalLine::Post),
-        _ => None,
-    }
-}
-
-fn submit_in(alloc: Global, rest: &[&str]) -> Result<Option<RehearsalLine>, AllocError>
-    ensures found { FindsOnly MayStandAnywhere line_words (codes "submit" ∷ texts_of rest.now) result }
-    ensures only { (s t : ℕ) (change : List Op) → s < 2 ^ 8 → t < 2 ^ 64 → IsChange change
-        → texts_of rest.now ≡ decimal s ∷ decimal t ∷ map op_text change → ReadsSome result }
-{
-    let [session, ticket, ops @ ..] = rest else {
-        return Ok(None);
-    };
-    let Some(session) = number(alloc, session, 255)? else {
-        return Ok(None);
-    };
-    let Some(ticket) = number(alloc, ticket, u64::MAX)? else {
-        return Ok(None);
-    };
-    let session = session as u8;
-    Ok(change_in(alloc, ops)?.map(|change| RehearsalLine::Submit {
-        session,
-        ticket,
-        change,
-    }))
-}
-
-// Two numbers that are the only words, each at most its `most`.
-fn two_numbers(
-    alloc: Global,
-    words: &[&str],
-    most: (u64, u64),
-) -> Result<Option<(u64, u64)>, AllocError>
-    ensures found { IfRead result (λ p. texts_of words.now ≡ pair_words p.0 p.1) }
-    ensures fits { IfRead result (λ p. (p.0 ≤ most.0) × (p.1 ≤ most.1)) }
-    ensures only { (a b : ℕ) → a ≤ most.0 → b ≤ most.1 → texts_of words.now ≡ pair_words a b → Reads result (a, b) }
-{
-    let [a, b] = words else {
-        return Ok(None);
-    };
-    let Some(a) = number(alloc, a, most.0)? else {
-        return Ok(None);
-    };
-    Ok(number(alloc, b, most.1)?.map(|b| (a, b)))
-}
-
-fn look_in(alloc: Global, rest: &[&str]) -> Result<Option<RehearsalLine>, AllocError>
-    ensures found { FindsOnly MayStandAnywhere line_words (codes "look" ∷ texts_of rest.now) result }
-    ensures only { (s at : ℕ) → s < 2 ^ 8 → at < 2 ^ 64 → texts_of rest.now ≡ pair_words s at → ReadsSome result }
-{
-    match two_numbers(alloc, rest, (255, u64::MAX))? {
-        Some((session, at)) => Ok(Some(RehearsalLine::Look {
-            session: session as u8,
-            at,
-        })),
-        None => Ok(None),
-    }
-}
-
-fn hop_in(alloc: Global, rest: &[&str]) -> Result<Option<RehearsalLine>, AllocError>
-    ensures found { FindsOnly MayStandAnywhere line_words (codes "hop" ∷ texts_of rest.now) result }
-    ensures only { (p at : ℕ) → p < 2 ^ 64 → at < 2 ^ 64 → texts_of rest.now ≡ pair_words p at → ReadsSome result }
-{
-    Ok(two_numbers(alloc, rest, (u64::MAX, u64::MAX))?.map(|(packet, at)| RehearsalLine::Hop {
-        packet,
-        at,
-    }))
-}
-
-fn launch_in(alloc: Global, rest: &[&str]) -> Result<Option<RehearsalLine>, AllocError>
-    ensures found { FindsOnly MayStandAnywhere line_words (codes "launch" ∷ texts_of rest.now) result }
+fn launch_in(alloc: Global, rest: &[&str]) -> Result<RehearsalLine, NotRead>
+    ensures found { Finds MayStandAnywhere line_words (codes "launch" ∷ texts_of rest.now) result }
     ensures only { (from to at : ℕ) → from < 2 ^ 16 → to < 2 ^ 16 → at < 2 ^ 64
-        → texts_of rest.now ≡ decimal from ∷ pair_words to at → ReadsSome result }
+        → texts_of rest.now ≡ decimal from ∷ pair_words to at → IsRead result }
 {
     let [from, to, at] = rest else {
-        return Ok(None);
+        return Err(NotRead::Form(Form::Launch));
     };
-    let Some(from) = node(alloc, from)? else {
-        return Ok(None);
-    };
-    let Some(to) = node(alloc, to)? else {
-        return Ok(None);
-    };
-    Ok(number(alloc, at, u64::MAX)?.map(|at| RehearsalLine::Launch { from, to, at }))
+    let from = number_in(alloc, Form::Launch, from, 0, 65_535)?;
+    let to = number_in(alloc, Form::Launch, to, 0, 65_535)?;
+    let at = number_in(alloc, Form::Launch, at, 0, u64::MAX)?;
+    Ok(RehearsalLine::Launch(from as u16, to as u16, at as usize))
 }
 
-fn rebuild_in(alloc: Global, rest: &[&str], nodes: u16) -> Result<Option<RehearsalLine>, AllocError>
-    ensures found { FindsOnly (MayStand (Stage.Living nodes)) line_words (codes "rebuild" ∷ texts_of rest.now) result }
-    ensures only { ReadsEach (AreOfDevice nodes) (λ words. words_text words ∷ []) (texts_of rest.now) result }
+// A number in decimal, from `least` to `most`.
+fn number_in(alloc: Global, form: Form, text: &str, least: u64, most: u64) -> Result<u64, NotRead>
+    ensures found { IfOk result (λ n. (text.now ≡ decimal n) × (least ≤ n) × (n ≤ most)) }
+    ensures only { (n : ℕ) → least ≤ n → n ≤ most → text.now ≡ decimal n → IsRead result }
 {
-    let [words] = rest else {
-        return Ok(None);
-    };
-    Ok(device_words(alloc, words, nodes)?.map(|words| RehearsalLine::Rebuild { words }))
+    match number(alloc, text, most)? {
+        Some(n) if n >= least => Ok(n),
+        _ => Err(NotRead::Form(form)),
+    }
 }
 
 // Landmark words of a device of so many nodes.
-fn device_words(alloc: Global, text: &str, nodes: u16) -> Result<Option<LandmarkWords>, AllocError>
-    ensures found { IfRead result (λ words. (text.now ≡ words_text words) × AreOfDevice nodes words) }
-    ensures only { (words : LandmarkWords) → AreOfDevice nodes words → text.now ≡ words_text words → ReadsSome result }
+fn words_in(alloc: Global, form: Form, text: &str, nodes: u16) -> Result<LandmarkWords, NotRead>
+    ensures found { Finds (AreOfDevice nodes) words_text text.now result }
+    ensures only { ReadsEach (AreOfDevice nodes) words_text text.now result }
 {
     match landmark_words(alloc, text)? {
-        Some(words) if words.is_within(nodes) => Ok(Some(words)),
-        _ => Ok(None),
+        Some(words) if words.is_within(nodes) => Ok(words),
+        _ => Err(NotRead::Form(form)),
     }
 }
 
 // ---- a life
 
-fn life_in(alloc: Global, fields: &[&str], nodes: u16) -> Result<Option<RehearsalLine>, AllocError>
-    ensures found { FindsOnly (MayStand (Stage.Made nodes)) line_words (codes "life" ∷ texts_of fields.now) result }
+fn life_in(alloc: Global, fields: &[&str], nodes: u16) -> Result<RehearsalLine, NotRead>
+    ensures found { Finds (MayStand (Stage.Made nodes)) line_words (codes "life" ∷ texts_of fields.now) result }
     ensures only { ReadsEach (IsLife nodes) life_fields (texts_of fields.now) result }
 {
     let [sessions, places, words, end @ ..] = fields else {
-        return Ok(None);
+        return Err(NotRead::Form(Form::Life));
     };
-    let Some(sessions) = few_behind(alloc, sessions, "sessions=")? else {
-        return Ok(None);
-    };
-    let Some(places) = few_behind(alloc, places, "places=")? else {
-        return Ok(None);
-    };
-    let Some(words) = behind(words, "words=") else {
-        return Ok(None);
-    };
-    let Some(words) = device_words(alloc, words, nodes)? else {
-        return Ok(None);
-    };
-    let Some((plan, crash)) = end_in(alloc, end)? else {
-        return Ok(None);
-    };
-    Ok(Some(RehearsalLine::Life(LifeLine {
+    let sessions = number_in(alloc, Form::Life, behind(sessions, "sessions=")?, 1, 64)? as u8;
+    let places = number_in(alloc, Form::Life, behind(places, "places=")?, 1, 64)? as u8;
+    let words = words_in(alloc, Form::Life, behind(words, "words=")?, nodes)?;
+    let (plan, crash) = end_in(alloc, end)?;
+    Ok(RehearsalLine::Life(LifeLine {
         sessions,
         places,
         words,
         plan,
         crash,
-    })))
-}
-
-// What stands in a field behind its name.
-fn behind<'a>(field: &'a str, name: &str) -> Option<&'a str>
-    ensures found { IfSome result (λ value. field.entry.now ≡ name.now ++ value.now) }
-    ensures only { (value : List ℕ) → field.entry.now ≡ name.now ++ value → IsSomeAnd result (λ read. read.now ≡ value) }
-{
-    field.strip_prefix(name)
-}
-
-// A number behind a field's name.
-fn number_behind(alloc: Global, field: &str, name: &str) -> Result<Option<u64>, AllocError>
-    ensures found { IfRead result (λ n. field.now ≡ name.now ++ decimal n) }
-    ensures only { (n : ℕ) → n < 2 ^ 64 → field.now ≡ name.now ++ decimal n → Reads result n }
-{
-    match behind(field, name) {
-        Some(value) => number(alloc, value, u64::MAX),
-        None => Ok(None),
-    }
-}
-
-// A number from 1 to 64.
-fn few_behind(alloc: Global, field: &str, name: &str) -> Result<Option<u8>, AllocError>
-    ensures found { IfRead result (λ n. (field.now ≡ name.now ++ decimal n) × IsFew n) }
-    ensures only { (n : ℕ) → IsFew n → field.now ≡ name.now ++ decimal n → Reads result n }
-{
-    match number_behind(alloc, field, name)? {
-        Some(n) if n >= 1 && n <= 64 => Ok(Some(n as u8)),
-        _ => Ok(None),
-    }
+    }))
 }
 
 // Which call fails, and what the crash leaves.
-fn end_in(alloc: Global, fields: &[&str]) -> Result<Option<(Plan, u64)>, AllocError>
-    ensures found { IfRead result (λ p. texts_of fields.now ≡ end_words p.0 p.1) }
-    ensures fits { IfRead result (λ p. FitsPlan p.0 × (p.1 < 2 ^ 64)) }
+fn end_in(alloc: Global, fields: &[&str]) -> Result<(Plan, u64), NotRead>
+    ensures found { IfOk result (λ p. texts_of fields.now ≡ end_words p.0 p.1) }
+    ensures fits { IfOk result (λ p. FitsPlan p.0 × (p.1 < 2 ^ 64)) }
     ensures only { (plan : Plan) (crash : ℕ) → FitsPlan plan → crash < 2 ^ 64
-        → texts_of fields.now ≡ end_words plan crash → ReadsSome result }
+        → texts_of fields.now ≡ end_words plan crash → IsRead result }
 {
     match fields {
-        [crash] => Ok(number_behind(alloc, crash, "crash=")?.map(|crash| (Plan::None, crash))),
+        [crash] => Ok((Plan::None, crash_in(alloc, crash)?)),
         [plan, crash] => {
-            let Some(plan) = plan_in(alloc, plan)? else {
-                return Ok(None);
-            };
-            Ok(number_behind(alloc, crash, "crash=")?.map(|crash| (plan, crash)))
+            let plan = plan_in(alloc, plan)?;
+            Ok((plan, crash_in(alloc, crash)?))
         }
-        _ => Ok(None),
+        _ => Err(NotRead::Form(Form::Life)),
     }
+}
+
+// The word of a crash.
+fn crash_in(alloc: Global, field: &str) -> Result<u64, NotRead>
+    ensures found { IfOk result (λ n. (field.now ≡ codes "crash=" ++ decimal n) × (n < 2 ^ 64)) }
+    ensures only { (n : ℕ) → n < 2 ^ 64 → field.now ≡ codes "crash=" ++ decimal n → IsRead result }
+{
+    number_in(alloc, Form::Life, behind(field, "crash=")?, 0, u64::MAX)
 }
 
 // Which call fails, of one that does.
-fn plan_in(alloc: Global, field: &str) -> Result<Option<Plan>, AllocError>
-    ensures found { IfRead result (λ plan. (field.now ∷ [] ≡ plan_words plan) × FitsPlan plan) }
-    ensures only { (plan : Plan) → FitsPlan plan → field.now ∷ [] ≡ plan_words plan → ReadsSome result }
+fn plan_in(alloc: Global, field: &str) -> Result<Plan, NotRead>
+    ensures found { Finds FitsPlan plan_words (field.now ∷ []) result }
+    ensures only { ReadsEach FitsPlan plan_words (field.now ∷ []) result }
 {
-    if let Some(call) = number_behind(alloc, field, "fail=")? {
-        return Ok(Some(Plan::Fail(call)));
+    if let Ok(call) = behind(field, "fail=") {
+        return Ok(Plan::Fail(number_in(alloc, Form::Life, call, 0, u64::MAX)?));
     }
-    let Some(value) = behind(field, "stop=") else {
-        return Ok(None);
-    };
-    Ok(pair_in(alloc, value)?.map(|(call, bytes)| Plan::Stop(call, bytes as usize)))
+    let (call, bytes) = halves(behind(field, "stop=")?)?;
+    let call = number_in(alloc, Form::Life, call, 0, u64::MAX)?;
+    let bytes = number_in(alloc, Form::Life, bytes, 0, u64::MAX)?;
+    Ok(Plan::Stop(call, bytes as usize))
 }
 
-// Two numbers with a colon between, `A:B`.
-fn pair_in(alloc: Global, text: &str) -> Result<Option<(u64, u64)>, AllocError>
-    ensures found { IfRead result (λ p. text.now ≡ pair_text p.0 p.1) }
-    ensures only { (a b : ℕ) → a < 2 ^ 64 → b < 2 ^ 64 → text.now ≡ pair_text a b → Reads result (a, b) }
+// What stands in a field behind its name.
+fn behind<'a>(field: &'a str, name: &str) -> Result<&'a str, NotRead>
+    ensures found { IfOk result (λ value. field.entry.now ≡ name.now ++ value.now) }
+    ensures only { (value : List ℕ) → field.entry.now ≡ name.now ++ value → IsOkAnd result (λ read. read.now ≡ value) }
 {
-    let Some((front, behind)) = halves(text) else {
-        return Ok(None);
-    };
-    two_numbers(alloc, &[front, behind], (u64::MAX, u64::MAX))
+    match field.strip_prefix(name) {
+        Some(value) => Ok(value),
+        None => Err(NotRead::Form(Form::Life)),
+    }
 }
 
 // What stands in front of the first colon, and behind it.
-fn halves<'a>(text: &'a str) -> Option<(&'a str, &'a str)>
-    ensures found { IfSome result (λ p. text.entry.now ≡ p.0.now ++ 58 ∷ p.1.now) }
+fn halves<'a>(text: &'a str) -> Result<(&'a str, &'a str), NotRead>
+    ensures found { IfOk result (λ p. text.entry.now ≡ p.0.now ++ 58 ∷ p.1.now) }
     ensures only { (n : ℕ) (rest : List ℕ) → n < 2 ^ 64 → text.entry.now ≡ decimal n ++ 58 ∷ rest
-        → IsSomeAnd result (λ p. (p.0.now ≡ decimal n) × (p.1.now ≡ rest)) }
+        → IsOkAnd result (λ p. (p.0.now ≡ decimal n) × (p.1.now ≡ rest)) }
 {
-    text.split_once(':')
+    match text.split_once(':') {
+        Some(parts) => Ok(parts),
+        None => Err(NotRead::Form(Form::Life)),
+    }
 }

@@ -1,12 +1,12 @@
 // Reading a rehearsal.
-ghost use Rattle.std.specs.Prelude.{◌≡◌, IfOk, IfErr};
+ghost use Rattle.std.specs.Prelude.{◌≡◌, IfErr, IfOk};
 ghost use Rattle.value_syntax.specs.Reading.{texts_of};
 ghost use Rattle.value_syntax.specs.Scripts.{lines_of};
 ghost use Rattle.rehearsal_syntax.specs.Said.{IsFirstRefused, SayRehearsal, bare, words_of};
 
 use crate::line::RehearsalLine;
-use crate::line_reading::line_in;
-use crate::refused::{Form, LineRefused};
+use crate::line_reading::{NotRead, line_in};
+use crate::refused::LineRefused;
 use crate::stage::Stage;
 use std::alloc::{AllocError, Global};
 use value_syntax::lines_in;
@@ -20,17 +20,6 @@ pub fn read_rehearsal(
     ensures refused { IfOk result (λ read. IfErr read (λ refused. IsFirstRefused (lines_of text.now) refused.number)) }
 {
     let texts = lines_in(alloc, text)?;
-    lines_read(alloc, &texts)
-}
-
-// The lines that these texts say.
-fn lines_read(
-    alloc: Global,
-    texts: &[&str],
-) -> Result<Result<Vec<RehearsalLine>, LineRefused>, AllocError>
-    ensures found { IfOk result (λ read. IfOk read (λ lines. SayRehearsal (texts_of texts.now) lines.items)) }
-    ensures refused { IfOk result (λ read. IfErr read (λ refused. IsFirstRefused (texts_of texts.now) refused.number)) }
-{
     let mut lines = Vec::new(alloc);
     let mut stage = Stage::Empty;
     for index in 0..texts.len() {
@@ -38,36 +27,19 @@ fn lines_read(
         if words.is_empty() {
             continue;
         }
-        let Some(line) = line_in(alloc, stage, &words)? else {
-            let number = index + 1;
-            let form = form_of(stage, words[0]);
-            return Ok(Err(LineRefused { number, form }));
+        let line = match line_in(alloc, stage, &words) {
+            Ok(line) => line,
+            Err(NotRead::Memory) => return Err(AllocError),
+            Err(NotRead::Form(form)) => {
+                let number = index + 1;
+                return Ok(Err(LineRefused { number, form }));
+            }
         };
         stage = stage.behind(&line);
         lines.push(line)?;
     }
     Ok(Ok(lines))
 }
-
-// What a line should have been that begins with this word.
-fn form_of(stage: Stage, name: &str) -> Form {
-    match stage {
-        Stage::Empty => Form::Device,
-        Stage::Made(_) => Form::Life,
-        Stage::Living(_) => match name {
-            "life" => Form::Life,
-            "submit" => Form::Submit,
-            "look" => Form::Look,
-            "take" | "commit" | "post" => Form::Step,
-            "rebuild" => Form::Rebuild,
-            "launch" => Form::Launch,
-            "hop" => Form::Hop,
-            _ => Form::Line,
-        },
-    }
-}
-
-// ---- the words of a line
 
 // The words of a line.
 fn words_in<'a>(alloc: Global, text: &'a str) -> Result<Vec<&'a str>, AllocError>

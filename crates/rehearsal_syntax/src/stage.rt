@@ -5,7 +5,7 @@ ghost use Rattle.rehearsal_syntax.specs.Grammar.{stage_after};
 use crate::line::RehearsalLine;
 
 /// What the lines so far have: nothing, a device of so many nodes, or lives of it.
-#[derive(Clone, Copy, Debug, PartialEq, Eq, Drop)]
+#[derive(Clone, Copy, Drop)]
 pub enum Stage {
     Empty,
     Made(u16),
@@ -18,7 +18,7 @@ impl Stage {
         ensures { result ≡ stage_after self line.now }
     {
         match (self, line) {
-            (Stage::Empty, RehearsalLine::Device { nodes }) => Stage::Made(*nodes),
+            (Stage::Empty, RehearsalLine::Device(nodes)) => Stage::Made(*nodes),
             (Stage::Made(nodes), _) => Stage::Living(nodes),
             _ => self,
         }

@@ -6,8 +6,7 @@ use Rattle.layout_2.specs.State.{first_state}
 use Rattle.layout_2.specs.Standing.{StandsFor}
 use Rattle.life_chain.specs.declared.life.Life.{Life}
 use Rattle.life_chain.specs.declared.report.LivesReport.{LivesReport}
-use Rattle.life_chain.specs.Chains.{AreChained, AreExactlyOnce}
-use Rattle.life_chain.specs.Lived.{AreLived}
+use Rattle.life_chain.specs.Telling.{AreTold, ReportsEach}
 use Rattle.life_chain.specs.Words.{IsLeftByWord}
 use Rattle.rehearsals.specs.declared.asked.Rehearsal.{Rehearsal}
 use Rattle.rehearsals.specs.Reports.{report_text}
@@ -16,14 +15,13 @@ use Rattle.rehearsals.specs.Reports.{report_text}
 abbrev pub IsOutOfRange : ℕ → Type 0
 IsOutOfRange nodes = ¬ ((1 ≤ nodes) × (nodes ≤ 16384))
 
--- The report is that of these lives, of a device that was formatted for so many nodes, up to the disk that they left: all that is promised
--- of such lives holds of it.
+-- The report is that of these lives, of a device that was formatted for so many nodes, up to the disk that they left.
 pub record IsReported {D : Type 0} (model : Ghosts D) (by_word : D → ℕ → D → Type 0) (nodes : ℕ) (lives : List Life) (report : LivesReport) (left : D) : Type 0 where
   pub disk : D
   pub formatted : StandsFor (first_state nodes) (model.view disk).content
-  pub lived : AreLived model by_word disk lives report.lives.items report.refused left
-  pub chained : AreChained lives report.lives.items
-  pub exactly_once : AreExactlyOnce report.lives.items
+  -- all that is promised of such lives holds of it
+  pub told : AreTold model by_word disk lives report left
+  pub answered : ReportsEach model by_word disk lives report left
 
 -- The text is that of the report of a rehearsal's lives, of a device in memory.
 pub record IsRehearsed (model : Ghosts MemDisk) (rehearsal : Rehearsal) (text : List ℕ) : Type 0 where

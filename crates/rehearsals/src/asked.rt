@@ -29,7 +29,7 @@ pub fn lives_of(
     if lines.is_empty() {
         return Ok(None);
     }
-    let RehearsalLine::Device { nodes } = lines.remove(0) else {
+    let RehearsalLine::Device(nodes) = lines.remove(0) else {
         return Ok(None);
     };
     let lives = lives_behind(alloc, nodes, lines)?;
@@ -104,34 +104,20 @@ fn event_of(alloc: Global, nodes: u16, line: RehearsalLine) -> Result<Event, All
     ensures { IfOk result (λ event. IsEventOf nodes line event) }
 {
     match line {
-        RehearsalLine::Device { nodes: _ } | RehearsalLine::Life(_) => unreachable!(),
-        RehearsalLine::Submit {
-            session,
-            ticket,
-            change,
-        } => Ok(Event::Submit {
+        RehearsalLine::Device(_) | RehearsalLine::Life(_) => unreachable!(),
+        RehearsalLine::Submit(session, ticket, change) => Ok(Event::Submit {
             session,
             ticket,
             change,
         }),
-        RehearsalLine::Look { session, at } => Ok(Event::Look {
-            session,
-            at: at as usize,
-        }),
+        RehearsalLine::Look(session, at) => Ok(Event::Look { session, at }),
         RehearsalLine::Take => Ok(Event::Take),
         RehearsalLine::Commit => Ok(Event::Commit),
         RehearsalLine::Post => Ok(Event::Post),
-        RehearsalLine::Rebuild { words } => Ok(Event::Rebuild {
+        RehearsalLine::Rebuild(words) => Ok(Event::Rebuild {
             words: words.of_nodes(alloc, nodes)?,
         }),
-        RehearsalLine::Launch { from, to, at } => Ok(Event::Launch {
-            from,
-            to,
-            at: at as usize,
-        }),
-        RehearsalLine::Hop { packet, at } => Ok(Event::Hop {
-            packet: packet as usize,
-            at: at as usize,
-        }),
+        RehearsalLine::Launch(from, to, at) => Ok(Event::Launch { from, to, at }),
+        RehearsalLine::Hop(packet, at) => Ok(Event::Hop { packet, at }),
     }
 }

@@ -7,8 +7,8 @@
 //! # The contract
 //!
 //! The text that [`rehearse`] answers is the text of a report (`report_text`, specs/Reports.antt), and that report is of the lives that it was
-//! given, of a device in memory that was formatted for so many nodes (`IsRehearsed` and `IsReported`, specs/Rehearsed.antt). Three clauses
-//! of `lives_in_memory` stand in `IsReported`, so they hold of what is printed:
+//! given, of a device in memory that was formatted for so many nodes (`IsRehearsed` and `IsReported`, specs/Rehearsed.antt). All that
+//! `lives_in_memory` tells of its report stands in `IsReported`, so it holds of what is printed:
 //!
 //! - each life is of the very disk that the crash of the life before left, by the crash's word, and each reply is the answer of its event,
 //!   in the order of the events (`AreLived`);

@@ -23,7 +23,7 @@ fn reads_each_kind_of_line(rt: HostRuntime) {
     let nodes = got(rt, vec![in alloc; 0u16, 4]);
     let ops = [Op::Add(0, 1, 1), Op::Set(0, 1, 2), Op::Cut(0, 1)];
     let want = [
-        RehearsalLine::Device { nodes: 5 },
+        RehearsalLine::Device(5),
         RehearsalLine::Life(LifeLine {
             sessions: 2,
             places: 64,
@@ -31,24 +31,14 @@ fn reads_each_kind_of_line(rt: HostRuntime) {
             plan: Plan::Fail(2),
             crash: 0,
         }),
-        RehearsalLine::Submit {
-            session: 1,
-            ticket: u64::MAX,
-            change: got(rt, Change::new(&ops)),
-        },
+        RehearsalLine::Submit(1, u64::MAX, got(rt, Change::new(&ops))),
         RehearsalLine::Take,
         RehearsalLine::Commit,
         RehearsalLine::Post,
-        RehearsalLine::Look { session: 0, at: 7 },
-        RehearsalLine::Rebuild {
-            words: LandmarkWords::Drawn(9),
-        },
-        RehearsalLine::Launch {
-            from: 0,
-            to: 4,
-            at: 1,
-        },
-        RehearsalLine::Hop { packet: 3, at: 2 },
+        RehearsalLine::Look(0, 7),
+        RehearsalLine::Rebuild(LandmarkWords::Drawn(9)),
+        RehearsalLine::Launch(0, 4, 1),
+        RehearsalLine::Hop(3, 2),
         RehearsalLine::Life(LifeLine {
             sessions: 64,
             places: 1,
@@ -83,11 +73,8 @@ fn reads_a_long_rehearsal(rt: HostRuntime) {
     let (rt, alloc) = (&rt, rt.alloc());
     let lines = read(rt, alloc, long_text(rt, alloc).as_str());
     assert_eq!(rt; lines.len(), 100_002);
-    let last = RehearsalLine::Submit {
-        session: 0,
-        ticket: 100_000,
-        change: got(rt, Change::new(&[Op::Set(0, 1, 100_000)])),
-    };
+    let change = got(rt, Change::new(&[Op::Set(0, 1, 100_000)]));
+    let last = RehearsalLine::Submit(0, 100_000, change);
     same(rt, &lines[100_001], &last, "the last line");
 }
 

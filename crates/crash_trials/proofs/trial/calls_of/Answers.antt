@@ -12,9 +12,8 @@ returns c =
       reported = record {
         disk = c.new.result;
         formatted = rw c.new.ensures.disk c.in_ok-disk.ensures.formatted;
-        lived = answered;
-        chained = told.chained;
-        exactly_once = told.exactly_once;
+        told = told;
+        answered = answered;
       };
       all = grind (arith, common_steps);
       noted = c.in_ok-into_calls.ensures;

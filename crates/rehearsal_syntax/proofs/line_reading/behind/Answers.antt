@@ -1,17 +1,15 @@
-use Rattle.std.proofs.Common.{◌≡◌, ◌∙◌, sym, ap, List, ◌++◌, ℕ, Option, None, Some, IfSome, IsSomeAnd, Bor, drop}
-use Rattle.std.specs.Prelude.{MatchOption}
-use Rattle.std.specs.Str.Pattern.{FindsTextPrefix, StripsPrefix}
+use Rattle.std.proofs.Common.{◌∙◌, sym, ap, List, ◌++◌, ℕ, drop}
 use Rattle.std.proofs.lemmas.List.Prefix.{front_rest}
+use Rattle.std.proofs.lemmas.Option.{MatchOption-at_none, MatchOption-at_some}
 use Rattle.rehearsal_syntax.proofs.line_reading.behind.Goals as goal
 
--- a text without its front, if that stands there
-stripped : (front text : List ℕ) (found : Option (Bor (List ℕ))) → MatchOption found (FindsTextPrefix front text None) (λ x. StripsPrefix (FindsTextPrefix front) text x.now)
-    → IfSome found (λ x. text ≡ front ++ x.now) × ((value : List ℕ) → text ≡ front ++ value → IsSomeAnd found (λ x. x.now ≡ value))
-stripped front text None strips = (tt, λ value is. absurd (strips value is))
-stripped front text (Some x) strips =
-    (strips.1.1 ∙ ap (λ (v : List ℕ). front ++ v) (sym strips.2), λ value is. strips.2 ∙ ap (λ (n : ℕ). drop n text) strips.1.0 ∙ front_rest text front value is)
+pub returns-in-Some : goal.returns-in-Some
+returns-in-Some c =
+    let strips = MatchOption-at_some _ _ _ c.in-Some.is c.strip_prefix.ensures.cases in
+    record {
+      found = strips.1.1 ∙ ap (λ (v : List ℕ). c.args.name.now ++ v) (sym strips.2);
+      only = λ value is. strips.2 ∙ ap (λ (n : ℕ). drop n c.args.field.now) strips.1.0 ∙ front_rest c.args.field.now c.args.name.now value is;
+    }
 
-pub returns : goal.returns
-returns c =
-    let read = stripped c.args.name.now c.args.field.now c.strip_prefix.result c.strip_prefix.ensures.cases in
-    record { found = read.0; only = read.1 }
+pub returns-in-None : goal.returns-in-None
+returns-in-None c = record { found = tt; only = λ value is. absurd (MatchOption-at_none _ _ c.in-None.is c.strip_prefix.ensures.cases value is) }
