@@ -54,9 +54,5 @@ fn push_part(
 fn widened(alloc: Global, sizes: &[u32]) -> Result<Vec<u64>, AllocError>
     ensures { IfOk result (λ numbers. numbers.items ≡ sizes.now) }
 {
-    let mut numbers = Vec::with_capacity(alloc, sizes.len())?;
-    for size in sizes {
-        numbers.push(*size as u64)?;
-    }
-    Ok(numbers)
+    sizes.iter().map(|size| *size as u64).collect(alloc)
 }
