@@ -35,18 +35,15 @@ text_in Csv figures = figure_rows figures
 text_in Json figures = json_line (figures_data figures)
 
 -- the pairs that a seed draws were measured in a scheme, as many as were asked for; none where there are no two nodes
-abbrev pub AreMeasuredOf : Asked → Network → Parts → List Measured → Type 0
-AreMeasuredOf asked graph scheme measured =
-    (2 ≤ graph.nodes → asked.pairs ≤ 32767 → (pairs : List (ℕ × ℕ)) × AreDrawnPairs graph.nodes asked.seed asked.pairs pairs × AreMeasured graph scheme pairs measured)
-    × (graph.nodes < 2 → measured ≡ [])
+pub record AreMeasuredOf (asked : Asked) (graph : Network) (scheme : Parts) (pairs : List (ℕ × ℕ)) (measured : List Measured) : Type 0 where
+  pub drawn : 2 ≤ graph.nodes → asked.pairs ≤ 32767 → AreDrawnPairs graph.nodes asked.seed asked.pairs pairs × AreMeasured graph scheme pairs measured
+  pub none : graph.nodes < 2 → (pairs ≡ []) × (measured ≡ [])
 
 -- the figures of a scheme, and behind them those of the ways in it
-pub record AreFiguresOf (asked : Asked) (graph : Network) (scheme : Parts) (figures : List Said) : Type 0 where
+pub record AreFiguresOf (scheme : Parts) (measured : List Measured) (figures : List Said) : Type 0 where
   pub sizes : List Said
   pub ways : List Said
-  pub measured : List Measured
   pub of_scheme : AreSchemeFigures scheme sizes
-  pub were_measured : AreMeasuredOf asked graph scheme measured
   pub of_ways : AreWayFigures measured ways
   pub are : figures ≡ sizes ++ ways
 
@@ -56,21 +53,17 @@ rows_text Lines rows = flat_map node_line rows
 rows_text Csv rows = node_rows rows
 rows_text Json rows = json_line (nodes_data rows)
 
--- the rows of a scheme's nodes, by the pairs that a seed draws, as many as were asked for; none where there are no two nodes
-pub record AreRowsOf (asked : Asked) (graph : Network) (scheme : Parts) (rows : List NodeRow) : Type 0 where
+-- the text of figures by what was measured, or of a row for each node where they were asked for
+abbrev pub IsTextBy : Bool → Layout → Parts → List (ℕ × ℕ) → List Measured → List ℕ → Type 0
+IsTextBy true layout scheme pairs measured text = (rows : List NodeRow) × AreNodeRows scheme pairs measured rows × (text ≡ rows_text layout rows)
+IsTextBy false layout scheme pairs measured text = (figures : List Said) × AreFiguresOf scheme measured figures × (text ≡ text_in layout figures)
+
+-- .. of the pairs that a seed draws
+pub record IsTextOf (asked : Asked) (graph : Network) (scheme : Parts) (text : List ℕ) : Type 0 where
   pub pairs : List (ℕ × ℕ)
   pub measured : List Measured
-  pub drawn : 2 ≤ graph.nodes → asked.pairs ≤ 32767 → AreDrawnPairs graph.nodes asked.seed asked.pairs pairs × AreMeasured graph scheme pairs measured
-  pub none : graph.nodes < 2 → (pairs ≡ []) × (measured ≡ [])
-  pub are : AreNodeRows scheme pairs measured rows
-
--- the text of figures, or of rows where they were asked for
-abbrev pub IsTextBy : Bool → Asked → Network → Parts → List ℕ → Type 0
-IsTextBy true asked graph scheme text = (rows : List NodeRow) × AreRowsOf asked graph scheme rows × (text ≡ rows_text asked.layout rows)
-IsTextBy false asked graph scheme text = (figures : List Said) × AreFiguresOf asked graph scheme figures × (text ≡ text_in asked.layout figures)
-
-abbrev pub IsTextOf : Asked → Network → Parts → List ℕ → Type 0
-IsTextOf asked graph scheme text = IsTextBy asked.by_node asked graph scheme text
+  pub were : AreMeasuredOf asked graph scheme pairs measured
+  pub are : IsTextBy asked.by_node asked.layout scheme pairs measured text
 
 -- the text is that of a scheme of the network, of this generation and by the landmark words that were asked for
 pub record AreStatsOf (asked : Asked) (graph : Network) (generation : ℕ) (text : List ℕ) : Type 0 where

@@ -1,5 +1,5 @@
 //! Commits on a device beside the one that is asked about.
-use crate::samples::{Samples, TimeRefused, Timed, Times, samples_of};
+use crate::samples::{TimeRefused, Timed, Times, nanos_of_runs};
 use checkpoint::{DEVICE_LEN, format};
 use command_output::Fault;
 use device_files::DeviceFile;
@@ -17,46 +17,29 @@ const COMMITS: u16 = 8;
 
 /// Times the commit of groups of so many changes, on a file that is made beside the device and removed at the end.
 pub(crate) fn time_commits<R, O>(
-    rt: &R,
     device: &str,
     runs: u16,
     changes: u8,
-    times: &mut Times<'_, O>,
+    times: &mut Times<'_, R, O>,
 ) -> Result<(), TimeRefused>
 where
     R: Files<File = File> + AllocGlobal + Clock,
     O: Write,
 {
-    let scratch = match format!(in rt.alloc(); "{device}.time") {
-        Ok(text) => text,
-        Err(_) => return Err(TimeRefused::Fault(Fault::Memory)),
-    };
-    let samples = samples_at(rt, scratch.as_str(), runs, changes);
-    samples?.put_of(rt.alloc(), times, "commit", "changes", changes as u16)
+    let rt = times.rt;
+    let scratch = format!(in rt.alloc(); "{device}.time")?;
+    let file = DeviceFile::make_new(rt, scratch.as_str(), DEVICE_LEN).map_err(fault_of)?;
+    let nanos = nanos_on(rt, file, runs.saturating_mul(COMMITS), changes);
+    let _removed = fs::remove_file(rt, scratch.as_str());
+    times.tell_of("commit", "changes", changes as u16, nanos?)
 }
 
-// The same of a file under this path.
-fn samples_at<R: Files<File = File> + AllocGlobal + Clock>(
-    rt: &R,
-    scratch: &str,
-    runs: u16,
-    changes: u8,
-) -> Result<Samples, TimeRefused> {
-    let file = match DeviceFile::make_new(rt, scratch, DEVICE_LEN) {
-        Ok(file) => file,
-        Err(refused) => return Err(TimeRefused::Fault(fault_of(refused))),
-    };
-    let samples = samples_on(rt, file, runs.saturating_mul(COMMITS), changes);
-    let _removed = fs::remove_file(rt, scratch);
-    samples
-}
-
-fn samples_on<R: AllocGlobal + Clock>(
+fn nanos_on<R: AllocGlobal + Clock>(
     rt: &R,
     mut file: DeviceFile,
     commits: u16,
     changes: u8,
-) -> Result<Samples, TimeRefused> {
+) -> Result<Vec<u64>, TimeRefused> {
     if format(&mut file, 2).is_err() {
         return Err(TimeRefused::Fault(Fault::Device));
     }
@@ -67,7 +50,7 @@ fn samples_on<R: AllocGlobal + Clock>(
         ticket: 0,
         changes,
     };
-    samples_of(rt, commits, &mut commit)
+    nanos_of_runs(rt, commits, &mut commit)
 }
 
 // A group of so many changes is committed.

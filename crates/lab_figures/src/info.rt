@@ -19,12 +19,9 @@ use std::io::Write;
 pub fn grammar<'a>(alloc: Global) -> Result<Command<'a>, AllocError>
     ensures { IfOk result (λ command. IsCommandOf command info_app) }
 {
-    command(
-        alloc,
-        "info",
-        "Prints what a device holds, in a few figures",
-        &[device(), flag("json", "Prints an object of JSON")],
-    )
+    let about = "Prints what a device holds, in a few figures";
+    let said = [device(), flag("json", "Prints an object of JSON")];
+    command(alloc, "info", about, &said)
 }
 
 /// Prints what the device that these matches name holds, and answers the exit status.
@@ -70,7 +67,7 @@ pub fn info_on<D: Disk, O: Write>(
 {
     let info = info_of(alloc, disk)?;
     let text = text_of(alloc, &info, as_json)?;
-    print(out, text.as_bytes())?;
+    print(out, text.as_bytes()).map_err(FiguresRefused::Print)?;
     Ok(())
 }
 

@@ -21,15 +21,9 @@ use std::io::Write;
 pub fn grammar<'a>(alloc: Global) -> Result<Command<'a>, AllocError>
     ensures { IfOk result (λ command. IsCommandOf command journal_app) }
 {
-    command(
-        alloc,
-        "journal",
-        "Prints the changes since the checkpoint of a device, a line each",
-        &[
-            device(),
-            value("last", "N", "Prints no more than the last N changes"),
-        ],
-    )
+    let about = "Prints the changes since the checkpoint of a device, a line each";
+    let last = value("last", "N", "Prints no more than the last N changes");
+    command(alloc, "journal", about, &[device(), last])
 }
 
 /// Prints the changes behind the checkpoint of the device that these matches name, and answers the exit status.
@@ -79,6 +73,6 @@ pub fn journal_on<D: Disk, O: Write>(
 {
     let changes = changes_of(alloc, disk)?;
     let text = changes.text(alloc, last)?;
-    print(out, text.as_bytes())?;
+    print(out, text.as_bytes()).map_err(FiguresRefused::Print)?;
     Ok(())
 }

@@ -7,7 +7,7 @@ use std::alloc::AllocError;
 use std::io::Write;
 
 /// Why the figures of a device aren't printed.
-#[derive(Clone, Copy, Debug, PartialEq, Eq, Drop)]
+#[derive(Clone, Copy, Drop)]
 pub enum FiguresRefused {
     /// The device can't be read.
     Device(OpenRefused),
@@ -49,15 +49,5 @@ impl From<AllocError> for FiguresRefused {
 
     fn from(_: AllocError) -> Self {
         FiguresRefused::Print(PrintRefused::Memory)
-    }
-}
-
-impl From<PrintRefused> for FiguresRefused {
-    ghost use Rattle.lab_figures.specs.declared.refused.FiguresRefused.TheVariants.{Print};
-
-    ghost from_gives = { λ refused e. e ≡ Print refused };
-
-    fn from(refused: PrintRefused) -> Self {
-        FiguresRefused::Print(refused)
     }
 }

@@ -1,60 +1,23 @@
 //! The times of runs of one thing.
 use command_output::Fault;
 use figure_lines::{Machine, TimeRow, times_json};
-use std::alloc::{AllocError, AllocFailed, Global};
+use std::alloc::AllocError;
 use std::io::Write;
 use std::rt::Clock;
 use std::time::Instant;
 use thiserror::Error;
 
 /// Why nothing more is timed.
-#[derive(Clone, Copy, Debug, PartialEq, Eq, Drop, Error)]
+#[derive(Debug, Drop, Error)]
 pub(crate) enum TimeRefused {
-    /// The device, memory or the output.
+    /// The device or the output.
     #[error("{0}")]
-    Fault(Fault),
+    Fault(#[from] Fault),
+    #[error("out of memory")]
+    Memory(#[from(alloc)] AllocError),
     /// The system gives no time.
     #[error("the clock can't be read")]
     Clock,
-}
-
-impl From<Fault> for TimeRefused {
-    fn from(fault: Fault) -> Self {
-        TimeRefused::Fault(fault)
-    }
-}
-
-impl From<AllocError> for TimeRefused {
-    fn from(_: AllocError) -> Self {
-        TimeRefused::Fault(Fault::Memory)
-    }
-}
-
-impl<T: Drop> From<AllocFailed<T>> for TimeRefused {
-    fn from(_: AllocFailed<T>) -> Self {
-        TimeRefused::Fault(Fault::Memory)
-    }
-}
-
-/// A time that runs.
-#[derive(Drop)]
-pub(crate) struct Clocked(Instant);
-
-impl Clocked {
-    pub(crate) fn start<R: Clock>(rt: &R) -> Result<Clocked, TimeRefused> {
-        match Instant::now(rt) {
-            Ok(start) => Ok(Clocked(start)),
-            Err(_) => Err(TimeRefused::Clock),
-        }
-    }
-
-    /// How many nanoseconds have passed.
-    pub(crate) fn nanos<R: Clock>(&self, rt: &R) -> Result<u64, TimeRefused> {
-        match self.0.elapsed(rt) {
-            Ok(passed) => Ok(u64::try_from(passed.as_nanos()).unwrap_or(u64::MAX)),
-            Err(_) => Err(TimeRefused::Clock),
-        }
-    }
 }
 
 /// What is run and timed.
@@ -75,111 +38,95 @@ pub(crate) trait Timed {
     }
 }
 
-/// The times of so many runs.
-pub(crate) fn samples_of<R, T>(rt: &R, runs: u16, timed: &mut T) -> Result<Samples, TimeRefused>
-where
-    R: AllocGlobal + Clock,
-    T: Timed,
-{
-    let mut samples = Samples::new(rt.alloc());
-    for number in 0..runs {
-        samples.add(nanos_of(rt, number, timed)?)?;
-    }
-    Ok(samples)
+/// The moment now.
+pub(crate) fn now<R: Clock>(rt: &R) -> Result<Instant, TimeRefused> {
+    Instant::now(rt).map_err(|_| TimeRefused::Clock)
+}
+
+/// How many nanoseconds have passed since then.
+pub(crate) fn nanos_since<R: Clock>(rt: &R, start: Instant) -> Result<u64, TimeRefused> {
+    let passed = start.elapsed(rt).map_err(|_| TimeRefused::Clock)?;
+    Ok(u64::try_from(passed.as_nanos()).unwrap_or(u64::MAX))
 }
 
 // How many nanoseconds a run takes, or a part of it.
 fn nanos_of<R: Clock, T: Timed>(rt: &R, number: u16, timed: &mut T) -> Result<u64, TimeRefused> {
     timed.prepare();
-    let clock = Clocked::start(rt)?;
+    let start = now(rt)?;
     let made = timed.run(number)?;
-    let nanos = clock.nanos(rt)?;
+    let nanos = nanos_since(rt, start)?;
     Ok(nanos.checked_div(T::parts(&made)).unwrap_or(0))
 }
 
-/// Times so many runs, and tells what they took.
-pub(crate) fn time_runs<R, T, O>(
-    rt: &R,
-    runs: u16,
-    what: &str,
-    timed: &mut T,
-    times: &mut Times<'_, O>,
-) -> Result<(), TimeRefused>
+/// How many each of so many runs takes.
+pub(crate) fn nanos_of_runs<R, T>(rt: &R, runs: u16, timed: &mut T) -> Result<Vec<u64>, TimeRefused>
 where
     R: AllocGlobal + Clock,
     T: Timed,
-    O: Write,
 {
-    samples_of(rt, runs, timed)?.put(rt.alloc(), times, what)
-}
-
-/// The nanoseconds of each run.
-#[derive(Drop)]
-pub(crate) struct Samples {
-    nanos: Vec<u64>,
-}
-
-impl Samples {
-    pub(crate) fn new(alloc: Global) -> Samples {
-        Samples {
-            nanos: Vec::new(alloc),
-        }
+    let mut nanos = Vec::new(rt.alloc());
+    for number in 0..runs {
+        nanos.push(nanos_of(rt, number, timed)?)?;
     }
-
-    pub(crate) fn add(&mut self, nanos: u64) -> Result<(), TimeRefused> {
-        self.nanos.push(nanos)?;
-        Ok(())
-    }
-
-    /// Tells the least of them and the median. Nothing is told where nothing ran.
-    pub(crate) fn put<O: Write>(
-        &mut self,
-        alloc: Global,
-        times: &mut Times<'_, O>,
-        what: &str,
-    ) -> Result<(), TimeRefused> {
-        self.nanos.sort_unstable();
-        let runs = self.nanos.len();
-        let (Some(least), Some(median)) = (self.nanos.first(), self.nanos.get(runs / 2)) else {
-            return Ok(());
-        };
-        times.put(TimeRow {
-            what: String::from_str(alloc, what)?,
-            runs,
-            least: *least,
-            median: *median,
-        })
-    }
-
-    /// The same of a thing with a number.
-    pub(crate) fn put_of<O: Write>(
-        &mut self,
-        alloc: Global,
-        times: &mut Times<'_, O>,
-        what: &str,
-        name: &str,
-        number: u16,
-    ) -> Result<(), TimeRefused> {
-        let text = format!(in alloc; "{what} {name}={number}")?;
-        self.put(alloc, times, text.as_str())
-    }
+    Ok(nanos)
 }
 
 /// Where times are told: a line for each as soon as it is known, or all of them in an object of JSON at the end.
 #[derive(Drop)]
-pub(crate) struct Times<'a, O> {
+pub(crate) struct Times<'a, R, O> {
+    pub(crate) rt: &'a R,
     out: &'a mut O,
     is_json: bool,
     rows: Vec<TimeRow>,
 }
 
-impl<'a, O: Write> Times<'a, O> {
-    pub(crate) fn new(alloc: Global, out: &'a mut O, is_json: bool) -> Times<'a, O> {
+impl<'a, R: AllocGlobal + Clock, O: Write> Times<'a, R, O> {
+    pub(crate) fn new(rt: &'a R, out: &'a mut O, is_json: bool) -> Times<'a, R, O> {
         Times {
+            rt,
             out,
             is_json,
-            rows: Vec::new(alloc),
+            rows: Vec::new(rt.alloc()),
         }
+    }
+
+    /// Times so many runs, and tells what they took.
+    pub(crate) fn time<T: Timed>(
+        &mut self,
+        what: &str,
+        runs: u16,
+        timed: &mut T,
+    ) -> Result<(), TimeRefused> {
+        let nanos = nanos_of_runs(self.rt, runs, timed)?;
+        self.tell(what, nanos)
+    }
+
+    /// Tells the least of these times and the median, under a name with a number.
+    pub(crate) fn tell_of(
+        &mut self,
+        what: &str,
+        name: &str,
+        number: u16,
+        nanos: Vec<u64>,
+    ) -> Result<(), TimeRefused> {
+        let text = format!(in self.rt.alloc(); "{what} {name}={number}")?;
+        self.tell(text.as_str(), nanos)
+    }
+
+    // Tells the least of these times and the median. Nothing is told where nothing ran.
+    fn tell(&mut self, what: &str, mut nanos: Vec<u64>) -> Result<(), TimeRefused> {
+        nanos.sort_unstable();
+        let runs = nanos.len();
+        let (Some(least), Some(median)) = (nanos.first(), nanos.get(runs / 2)) else {
+            return Ok(());
+        };
+        let what = String::from_str(self.rt.alloc(), what)?;
+        self.put(TimeRow {
+            what,
+            runs,
+            least: *least,
+            median: *median,
+        })
     }
 
     fn put(&mut self, row: TimeRow) -> Result<(), TimeRefused> {
@@ -197,9 +144,9 @@ impl<'a, O: Write> Times<'a, O> {
     }
 
     /// Tells on what machine it was timed, and all that isn't told yet.
-    pub(crate) fn end(&mut self, alloc: Global, machine: Machine) -> Result<(), TimeRefused> {
+    pub(crate) fn end(&mut self, machine: Machine) -> Result<(), TimeRefused> {
         let told = if self.is_json {
-            let text = times_json(alloc, &machine, &self.rows)?;
+            let text = times_json(self.rt.alloc(), &machine, &self.rows)?;
             write!(self.out, "{text}")
         } else {
             let (threads, processor) = (machine.threads, machine.processor.as_str());

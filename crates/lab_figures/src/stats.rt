@@ -5,7 +5,7 @@ ghost use Rattle.lab_parts.specs.Grammar.{IsCommandOf};
 ghost use Rattle.lab_parts.specs.Words.{rows_in};
 ghost use Rattle.value_syntax.specs.Words.{IsWithin};
 ghost use Rattle.schemes.specs.Checks.{IsChecked};
-ghost use Rattle.lab_figures.specs.Stats.{AreFiguresOf, AreMeasuredOf, AreRowsOf, AreStatsOf, DoesStats, IsAsked, IsLayout, IsStatsRefused, IsTextOf, PrintsStats, rows_text, text_in};
+ghost use Rattle.lab_figures.specs.Stats.{AreFiguresOf, AreMeasuredOf, AreStatsOf, DoesStats, IsAsked, IsLayout, IsStatsRefused, IsTextOf, PrintsStats, rows_text, text_in};
 ghost use Rattle.lab_figures.specs.Words.{stats_app};
 
 use crate::refused::FiguresRefused;
@@ -55,31 +55,22 @@ pub enum Layout {
 pub fn grammar<'a>(alloc: Global) -> Result<Command<'a>, AllocError>
     ensures { IfOk result (λ command. IsCommandOf command stats_app) }
 {
-    command(
-        alloc,
-        "stats",
-        "Builds the scheme of a device, and prints how large its tables and how long its ways are",
-        &[
-            device(),
-            landmarks(),
-            value(
-                "pairs",
-                "N",
-                "How many pairs are measured, 1000 where none is named, at most 32767",
-            ),
-            value(
-                "seed",
-                "S",
-                "The seed that draws them, 0 where none is named",
-            ),
-            flag(
-                "by-node",
-                "Prints a line for each node: its entries, the members of its directory, the bytes of its table, and the stretch of what it sends",
-            ),
-            flag("csv", "Prints CSV"),
-            flag("json", "Prints an array of JSON"),
-        ],
-    )
+    let about =
+        "Builds the scheme of a device, and prints how large its tables and how long its ways are";
+    let pairs = "How many pairs are measured, 1000 where none is named, at most 32767";
+    let seed = "The seed that draws them, 0 where none is named";
+    let by_node =
+        "Prints a line for each node: its entries, the members of its directory, the bytes of its table, and the stretch of what it sends";
+    let said = [
+        device(),
+        landmarks(),
+        value("pairs", "N", pairs),
+        value("seed", "S", seed),
+        flag("by-node", by_node),
+        flag("csv", "Prints CSV"),
+        flag("json", "Prints an array of JSON"),
+    ];
+    command(alloc, "stats", about, &said)
 }
 
 /// Prints the figures of the scheme that these matches name, and answers the exit status.
@@ -176,7 +167,7 @@ where
         return Err(FiguresRefused::Words);
     }
     let text = text_of(rt, &loaded, asked)?;
-    print(out, &text)?;
+    print(out, &text).map_err(FiguresRefused::Print)?;
     Ok(())
 }
 
@@ -208,67 +199,47 @@ fn text_by(
     requires { IsChecked graph.now scheme.now }
     ensures { IfOk result (λ text. IsTextOf asked.now graph.now scheme.now text.items) }
 {
+    let (pairs, measured) = measured_by(alloc, graph, scheme, asked)?;
     if asked.by_node {
-        let rows = rows_of(alloc, graph, scheme, asked)?;
-        rows_laid_out(alloc, &rows, asked.layout)
+        let rows = node_rows_of(alloc, scheme, &pairs, &measured)?;
+        Ok(rows_laid_out(alloc, &rows, asked.layout)?)
     } else {
-        let figures = figures_of(alloc, graph, scheme, asked)?;
-        laid_out(alloc, &figures, asked.layout)
+        let figures = figures_of(alloc, scheme, &measured)?;
+        Ok(laid_out(alloc, &figures, asked.layout)?)
     }
 }
 
-// A row for each node of a scheme. A node alone sends nothing.
-fn rows_of(
-    alloc: Global,
-    graph: &Graph,
-    scheme: &Scheme,
-    asked: &Asked,
-) -> Result<Vec<NodeRow>, AllocError>
-    requires { IsChecked graph.now scheme.now }
-    ensures { IfOk result (λ rows. AreRowsOf asked.now graph.now scheme.now rows.items) }
-{
-    let nodes = graph.nodes();
-    if nodes < 2 || asked.pairs > MOST_PAIRS {
-        return node_rows_of(alloc, scheme, &[], &[]);
-    }
-    let pairs = drawn_pairs(alloc, nodes, asked.pairs, asked.seed)?;
-    let measured = measure_all(alloc, graph, scheme, &pairs)?;
-    node_rows_of(alloc, scheme, &pairs, &measured)
-}
-
-// The figures of a scheme, and behind them those of the ways in it.
-fn figures_of(
-    alloc: Global,
-    graph: &Graph,
-    scheme: &Scheme,
-    asked: &Asked,
-) -> Result<Vec<Figure>, AllocError>
-    requires { IsChecked graph.now scheme.now }
-    ensures { IfOk result (λ figures. AreFiguresOf asked.now graph.now scheme.now (map said figures.items)) }
-{
-    let mut figures = scheme_figures_of(alloc, scheme)?;
-    let measured = measured_by(alloc, graph, scheme, asked)?;
-    let mut ways = way_figures_of(alloc, &measured)?;
-    figures.append(&mut ways)?;
-    Ok(figures)
-}
-
-// What is measured of the pairs that are drawn. A node alone has none.
+// The pairs that are drawn, and what is measured of them. A node alone sends nothing.
 fn measured_by(
     alloc: Global,
     graph: &Graph,
     scheme: &Scheme,
     asked: &Asked,
-) -> Result<Vec<Measured>, AllocError>
+) -> Result<(Vec<(u16, u16)>, Vec<Measured>), AllocError>
     requires { IsChecked graph.now scheme.now }
-    ensures { IfOk result (λ measured. AreMeasuredOf asked.now graph.now scheme.now measured.items) }
+    ensures { IfOk result (λ found. AreMeasuredOf asked.now graph.now scheme.now found.0.items found.1.items) }
 {
     let nodes = graph.nodes();
     if nodes < 2 || asked.pairs > MOST_PAIRS {
-        return Ok(Vec::new(alloc));
+        return Ok((Vec::new(alloc), Vec::new(alloc)));
     }
     let pairs = drawn_pairs(alloc, nodes, asked.pairs, asked.seed)?;
-    measure_all(alloc, graph, scheme, &pairs)
+    let measured = measure_all(alloc, graph, scheme, &pairs)?;
+    Ok((pairs, measured))
+}
+
+// The figures of a scheme, and behind them those of the ways in it.
+fn figures_of(
+    alloc: Global,
+    scheme: &Scheme,
+    measured: &[Measured],
+) -> Result<Vec<Figure>, AllocError>
+    ensures { IfOk result (λ figures. AreFiguresOf scheme.now measured.now (map said figures.items)) }
+{
+    let mut figures = scheme_figures_of(alloc, scheme)?;
+    let mut ways = way_figures_of(alloc, measured)?;
+    figures.append(&mut ways)?;
+    Ok(figures)
 }
 
 fn laid_out(alloc: Global, figures: &[Figure], layout: Layout) -> Result<Vec<u8>, AllocError>

@@ -6,7 +6,7 @@ ghost use Rattle.lab_figures.specs.Words.{time_app};
 use crate::commits::time_commits;
 use crate::forwarder::forwarder_with;
 use crate::machine::machine_here;
-use crate::samples::{Clocked, Samples, TimeRefused, Timed, Times, time_runs};
+use crate::samples::{TimeRefused, Timed, Times, nanos_since, now};
 use crate::walks::{ByForwarder, ByTables, Decisions, Walks, drawn_pairs, in_bytes, packets_of};
 use certificate::check_in_threads;
 use checkpoint::Store;
@@ -42,21 +42,16 @@ struct Asked<'a> {
 pub fn grammar<'a>(alloc: Global) -> Result<Command<'a>, AllocError>
     ensures { IfOk result (λ command. IsCommandOf command time_app) }
 {
-    command(
-        alloc,
-        "time",
-        "Times an opening, builds, checks, searches, packets and commits, and says on what machine",
-        &[
-            word(
-                "device",
-                "DEVICE",
-                "A device. DEVICE.time is made beside it, and removed",
-            ),
-            landmarks(),
-            value("runs", "R", "How often each is run; 5 where it is left out"),
-            flag("json", "Prints an object of JSON, at the end"),
-        ],
-    )
+    let about =
+        "Times an opening, builds, checks, searches, packets and commits, and says on what machine";
+    let device = "A device. DEVICE.time is made beside it, and removed";
+    let said = [
+        word("device", "DEVICE", device),
+        landmarks(),
+        value("runs", "R", "How often each is run; 5 where it is left out"),
+        flag("json", "Prints an object of JSON, at the end"),
+    ];
+    command(alloc, "time", about, &said)
 }
 
 /// Times what these matches ask for, prints a line for each, and answers the exit status.
@@ -89,198 +84,163 @@ where
         words,
         runs,
     };
-    let mut times = Times::new(rt.alloc(), out, is_given(found, "json"));
-    match time_all(rt, &asked, &mut times) {
+    let mut times = Times::new(rt, out, is_given(found, "json"));
+    match time_all(&asked, &mut times) {
         Ok(()) => 0,
         Err(refused) => told_of(err, device, refused),
     }
 }
 
 // Times one thing after the other, and at the end says on what.
-fn time_all<R, O>(rt: &R, asked: &Asked<'_>, times: &mut Times<'_, O>) -> Result<(), TimeRefused>
+fn time_all<R, O>(asked: &Asked<'_>, times: &mut Times<'_, R, O>) -> Result<(), TimeRefused>
 where
     R: Files<File = File> + AllocGlobal + Clock + Threads + Wait + Sync,
     O: Write,
 {
-    let mut opening = Opening {
-        rt,
-        device: asked.device,
-    };
-    time_runs(rt, asked.runs, "open", &mut opening, times)?;
-    let store = store_in(rt.alloc(), DeviceFile::open_to_read(rt, asked.device))?;
-    time_network(rt, asked, store, times)?;
-    time_commits(rt, asked.device, asked.runs, 1, times)?;
-    time_commits(rt, asked.device, asked.runs, 64, times)?;
-    times.end(rt.alloc(), machine_here(rt)?)
+    let (rt, device, runs) = (times.rt, asked.device, asked.runs);
+    let mut opening = Opening { rt, device };
+    times.time("open", runs, &mut opening)?;
+    let store = opening.run(0)?;
+    time_network(asked, &store, times)?;
+    drop(store);
+    time_commits(device, runs, 1, times)?;
+    time_commits(device, runs, 64, times)?;
+    times.end(machine_here(rt)?)
 }
 
 // Times what is done with the network that a device holds, which has to have the nodes that are named.
 fn time_network<R, O>(
-    rt: &R,
     asked: &Asked<'_>,
-    store: Store<DeviceFile>,
-    times: &mut Times<'_, O>,
+    store: &Store<DeviceFile>,
+    times: &mut Times<'_, R, O>,
 ) -> Result<(), TimeRefused>
 where
     R: AllocGlobal + Clock + Threads + Wait + Sync,
     O: Write,
 {
-    let nodes = store.nodes();
+    let (rt, nodes) = (times.rt, store.nodes());
     if !asked.words.is_within(nodes) {
         return Err(TimeRefused::Fault(Fault::Words));
     }
     let words = asked.words.of_nodes(rt.alloc(), nodes)?;
-    let builds = Builds {
-        store: &store,
+    let mut network = Network {
+        store,
         words: &words,
         runs: asked.runs,
+        times,
     };
-    time_graph(rt, &builds, times)
+    time_builds(&mut network, 1)?;
+    let workers = workers_here(rt, nodes.max(LEAST_SHARED));
+    time_builds(&mut network, workers)?;
+    let scheme = built(rt, &network, workers)?;
+    time_checks(&mut network, &scheme, 1)?;
+    time_checks(&mut network, &scheme, workers)?;
+    network.time_search()?;
+    let packets = network.time_tables(&scheme)?;
+    network.time_forwarder(scheme, &packets)
 }
 
-// What is built, from which words, and how often.
-#[derive(Clone, Copy)]
-struct Builds<'a> {
+// What is timed of a network, from which words its scheme is built, and how often.
+#[derive(Drop)]
+struct Network<'a, 'b, R, O> {
     store: &'a Store<DeviceFile>,
     words: &'a [u64],
     runs: u16,
+    times: &'a mut Times<'b, R, O>,
 }
 
-fn time_graph<R, O>(
-    rt: &R,
-    builds: &Builds<'_>,
-    times: &mut Times<'_, O>,
-) -> Result<(), TimeRefused>
+// The builds of a network's scheme, by so many workers. A scheme is let go of when the clock has been read.
+fn time_builds<R, O>(network: &mut Network<'_, '_, R, O>, workers: u16) -> Result<(), TimeRefused>
 where
     R: AllocGlobal + Clock + Threads + Wait + Sync,
     O: Write,
 {
-    time_builds(rt, builds, 1, times)?;
-    let workers = workers_here(rt, builds.store.nodes().max(LEAST_SHARED));
-    time_builds(rt, builds, workers, times)?;
-    let scheme = built(rt, builds, workers)?;
-    time_checks(rt, builds, &scheme, 1, times)?;
-    time_checks(rt, builds, &scheme, workers, times)?;
-    let mut search = Search {
-        alloc: rt.alloc(),
-        graph: builds.store.graph(),
-        runs: builds.runs,
-    };
-    time_runs(rt, builds.runs, "search", &mut search, times)?;
-    time_scheme(rt, builds, scheme, times)
-}
-
-fn time_builds<R, O>(
-    rt: &R,
-    builds: &Builds<'_>,
-    workers: u16,
-    times: &mut Times<'_, O>,
-) -> Result<(), TimeRefused>
-where
-    R: AllocGlobal + Clock + Threads + Wait + Sync,
-    O: Write,
-{
-    let mut samples = Samples::new(rt.alloc());
-    for _ in 0..builds.runs {
-        samples.add(nanos_of_build(rt, builds, workers)?)?;
+    let rt = network.times.rt;
+    let mut nanos = Vec::new(rt.alloc());
+    for _ in 0..network.runs {
+        let start = now(rt)?;
+        let _scheme = built(rt, network, workers)?;
+        nanos.push(nanos_since(rt, start)?)?;
     }
-    samples.put_of(rt.alloc(), times, "build", "workers", workers)
+    network.times.tell_of("build", "workers", workers, nanos)
+}
+
+fn built<R: AllocGlobal + Threads + Wait + Sync, O>(
+    rt: &R,
+    network: &Network<'_, '_, R, O>,
+    workers: u16,
+) -> Result<Scheme, TimeRefused> {
+    let (store, words) = (network.store, network.words);
+    let (graph, count) = (store.graph(), store.count());
+    let built = scheme_of_in_threads(rt, rt.alloc(), graph, words, count, workers);
+    Ok(built?)
 }
 
 // The checks of all rules, by so many workers.
 fn time_checks<R, O>(
-    rt: &R,
-    builds: &Builds<'_>,
+    network: &mut Network<'_, '_, R, O>,
     scheme: &Scheme,
     workers: u16,
-    times: &mut Times<'_, O>,
 ) -> Result<(), TimeRefused>
 where
     R: AllocGlobal + Clock + Threads + Sync,
     O: Write,
 {
-    let mut samples = Samples::new(rt.alloc());
-    for _ in 0..builds.runs {
-        let clock = Clocked::start(rt)?;
-        let _fault = check_in_threads(rt, builds.store.graph(), scheme, workers);
-        samples.add(clock.nanos(rt)?)?;
+    let rt = network.times.rt;
+    let mut nanos = Vec::new(rt.alloc());
+    for _ in 0..network.runs {
+        let start = now(rt)?;
+        let _fault = check_in_threads(rt, network.store.graph(), scheme, workers);
+        nanos.push(nanos_since(rt, start)?)?;
     }
-    samples.put_of(rt.alloc(), times, "check", "workers", workers)
+    network.times.tell_of("check", "workers", workers, nanos)
 }
 
-// How many nanoseconds a build takes. The scheme is let go of when the clock has been read.
-fn nanos_of_build<R: AllocGlobal + Clock + Threads + Wait + Sync>(
-    rt: &R,
-    builds: &Builds<'_>,
-    workers: u16,
-) -> Result<u64, TimeRefused> {
-    let clock = Clocked::start(rt)?;
-    let _scheme = built(rt, builds, workers)?;
-    clock.nanos(rt)
-}
+impl<R: AllocGlobal + Clock + Wait, O: Write> Network<'_, '_, R, O> {
+    fn time_search(&mut self) -> Result<(), TimeRefused> {
+        let mut search = Search {
+            alloc: self.times.rt.alloc(),
+            graph: self.store.graph(),
+            runs: self.runs,
+        };
+        self.times.time("search", self.runs, &mut search)
+    }
 
-// The scheme of a store's network.
-fn built<R: AllocGlobal + Threads + Wait + Sync>(
-    rt: &R,
-    builds: &Builds<'_>,
-    workers: u16,
-) -> Result<Scheme, TimeRefused> {
-    let store = builds.store;
-    Ok(scheme_of_in_threads(
-        rt,
-        rt.alloc(),
-        store.graph(),
-        builds.words,
-        store.count(),
-        workers,
-    )?)
-}
+    // What deciding on a packet takes, and a step of it by the scheme's tables. It answers its packets in bytes.
+    fn time_tables(
+        &mut self,
+        scheme: &Scheme,
+    ) -> Result<Vec<(u16, [u8; PACKET_SIZE])>, TimeRefused> {
+        let alloc = self.times.rt.alloc();
+        let pairs = drawn_pairs(alloc, self.store.nodes())?;
+        let mut decisions = Decisions {
+            scheme,
+            pairs: &pairs,
+        };
+        self.times.time("decide", self.runs, &mut decisions)?;
+        let packets = packets_of(alloc, scheme, &pairs)?;
+        let mut walks = Walks {
+            by: ByTables(scheme),
+            packets: &packets,
+        };
+        self.times.time("node_step", self.runs, &mut walks)?;
+        Ok(in_bytes(alloc, &packets)?)
+    }
 
-// What deciding on a packet takes, and a step of it: by the scheme's tables, and by a forwarder.
-fn time_scheme<R, O>(
-    rt: &R,
-    builds: &Builds<'_>,
-    scheme: Scheme,
-    times: &mut Times<'_, O>,
-) -> Result<(), TimeRefused>
-where
-    R: AllocGlobal + Clock + Wait,
-    O: Write,
-{
-    let packets = time_tables(rt, builds, &scheme, times)?;
-    let (_writer, forwarder) = forwarder_with(rt.alloc(), rt, builds.store, scheme)?;
-    let mut walks = Walks {
-        by: ByForwarder(forwarder),
-        packets: &packets,
-    };
-    time_runs(rt, builds.runs, "hop_bytes", &mut walks, times)
-}
-
-// The part of the tables. It answers its packets in bytes.
-fn time_tables<R, O>(
-    rt: &R,
-    builds: &Builds<'_>,
-    scheme: &Scheme,
-    times: &mut Times<'_, O>,
-) -> Result<Vec<(u16, [u8; PACKET_SIZE])>, TimeRefused>
-where
-    R: AllocGlobal + Clock,
-    O: Write,
-{
-    let alloc = rt.alloc();
-    let pairs = drawn_pairs(alloc, builds.store.nodes())?;
-    let mut decisions = Decisions {
-        scheme,
-        pairs: &pairs,
-    };
-    time_runs(rt, builds.runs, "decide", &mut decisions, times)?;
-    let packets = packets_of(alloc, scheme, &pairs)?;
-    let mut walks = Walks {
-        by: ByTables(scheme),
-        packets: &packets,
-    };
-    time_runs(rt, builds.runs, "node_step", &mut walks, times)?;
-    Ok(in_bytes(alloc, &packets)?)
+    // What a step of a packet takes by a forwarder.
+    fn time_forwarder(
+        &mut self,
+        scheme: Scheme,
+        packets: &[(u16, [u8; PACKET_SIZE])],
+    ) -> Result<(), TimeRefused> {
+        let rt = self.times.rt;
+        let (_writer, forwarder) = forwarder_with(rt.alloc(), rt, self.store, scheme)?;
+        let mut walks = Walks {
+            by: ByForwarder(forwarder),
+            packets,
+        };
+        self.times.time("hop_bytes", self.runs, &mut walks)
+    }
 }
 
 // The device's file is opened and read.

@@ -99,13 +99,7 @@ impl<'a> Stepping for ByTables<'a> {
 
     fn step(&mut self, at: u16, packet: &Packet) -> Option<(u16, Packet)> {
         match self.0.node_step(at, packet) {
-            Ok(
-                Move::Forward {
-                    port: _,
-                    next,
-                    packet,
-                },
-            ) => Some((next, packet)),
+            Ok(Move::Forward { next, packet, .. }) => Some((next, packet)),
             Ok(Move::Delivered) | Err(_) => None,
         }
     }
@@ -120,13 +114,7 @@ impl Stepping for ByForwarder {
 
     fn step(&mut self, at: u16, packet: &[u8; PACKET_SIZE]) -> Option<(u16, [u8; PACKET_SIZE])> {
         match self.0.hop_bytes(at, packet) {
-            Ok(
-                ByteMove::Forward {
-                    port: _,
-                    next,
-                    bytes,
-                },
-            ) => Some((next, bytes)),
+            Ok(ByteMove::Forward { next, bytes, .. }) => Some((next, bytes)),
             Ok(ByteMove::Delivered) | Err(_) => None,
         }
     }

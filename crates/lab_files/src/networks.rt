@@ -28,7 +28,7 @@ pub enum Form {
 }
 
 /// Why a network isn't printed.
-#[derive(Clone, Copy, Debug, PartialEq, Eq, Drop)]
+#[derive(Clone, Copy, Drop)]
 pub enum ExportRefused {
     /// The landmark words name a node that it hasn't.
     Words,

@@ -14,7 +14,7 @@ use std::io::Write;
 use value_syntax::number;
 
 /// The form of a file.
-#[derive(Clone, Copy, Debug, PartialEq, Eq, Drop)]
+#[derive(Clone, Copy, Drop)]
 pub enum FileForm {
     Lines(Writing),
     Json,
@@ -36,7 +36,7 @@ pub fn form_named(name: &str, heading: Heading) -> Result<FileForm, &'static str
 }
 
 /// What in a file says something.
-#[derive(Clone, Copy, Debug, PartialEq, Eq, Drop)]
+#[derive(Clone, Copy, Drop)]
 pub enum Place {
     Line,
     /// In JSON.

@@ -3,7 +3,7 @@ ghost use Rattle.std.specs.Prelude.{◌≡◌, ◌↔◌, ◌≤◌};
 ghost use Rattle.lab_landmarks.specs.Answers.{IsKept};
 
 /// What became of a choice of landmarks.
-#[derive(Debug, PartialEq, Eq, Drop)]
+#[derive(Drop)]
 pub enum Chosen {
     /// They keep the limits and were printed. This is to be told of them.
     Kept(String),

@@ -132,8 +132,7 @@ fn start_in(text: Option<&str>) -> Option<Option<Start>>
     ensures { IfSome result (IsStart (option_map (λ text. text.now) text.entry)) }
 {
     match text {
-        None => Some(None),
-        Some("best") => Some(None),
+        None | Some("best") => Some(None),
         Some("none") => Some(Some(Start::None)),
         Some("draw") => Some(Some(Start::Draw)),
         Some("degree") => Some(Some(Start::Degree)),

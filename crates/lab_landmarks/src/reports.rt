@@ -24,7 +24,7 @@ pub struct Asked<'a> {
 }
 
 /// What is told of them.
-#[derive(Debug, PartialEq, Eq, Drop)]
+#[derive(Drop)]
 pub struct Report {
     /// The figures of the drawn landmarks, and then of the chosen ones.
     pub figures: Vec<Figure>,

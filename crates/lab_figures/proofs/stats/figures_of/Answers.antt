@@ -7,9 +7,7 @@ pub returns : goal.returns
 returns c = record {
   sizes = map said c.in_ok-figures.figures.items;
   ways = map said c.in_ok-ways.ways.items;
-  measured = c.in_ok-measured.measured.items;
   of_scheme = c.in_ok-figures.ensures;
-  were_measured = c.in_ok-measured.ensures;
   of_ways = search rules;
   are = ap (map said) c.in_ok-append.ensures.items ∙ map-append said c.in_ok-figures.figures.items c.in_ok-ways.ways.items;
 }
