@@ -1,15 +1,14 @@
 -- What an edit by names prints, and what it leaves of a device.
 use Rattle.std.specs.Prelude.{◌≡◌, ◌≢◌, ◌⊎◌, ℕ, List, Ok, Err, IsOk, Result}
 use Rattle.std.specs.Borrow.{Bor}
-use Rattle.command_output.specs.Lines.{accepted_text, line, refused_text}
+use Rattle.command_output.specs.Lines.{line}
 use Rattle.command_output.specs.declared.ended.Ended.{Ended}
-use Rattle.command_output.specs.declared.ended.Ended.TheVariants.{Done, Refused as EndedRefused}
 use Rattle.command_output.specs.declared.fault.Fault.{Fault as Told}
 use Rattle.command_output.specs.declared.fault.Fault.TheVariants.{ChangeTooLong, Usage, Output}
 use Rattle.device_commands.specs.Edits.{EditsDevice}
 use Rattle.edge_lists.specs.declared.called.Called.{Called}
+use Rattle.file_commands.specs.Printed.{ended_by, verdict_text}
 use Rattle.generations.specs.declared.posting.Verdict.{Verdict}
-use Rattle.generations.specs.declared.posting.Verdict.TheVariants.{Accepted, Refused}
 use Rattle.graph_edits.specs.declared.edits.Op.{Op}
 use Rattle.lab_names.specs.declared.editing.NamedEdit.{NamedEdit}
 use Rattle.lab_names.specs.declared.refused.AskedRefused.{AskedRefused}
@@ -18,15 +17,6 @@ use Rattle.lab_parts.specs.Places.{DeviceStep, OutputStep, Prints}
 use Rattle.node_names.specs.NamedOps.{AreOpsBy}
 use Rattle.node_names.specs.Readings.{IsToldOf}
 use Rattle.node_names.specs.declared.refused.OpRefused.TheVariants.{Memory}
-
--- how an edit ends that is answered so, and its line
-abbrev pub ended_by : Verdict → Ended
-ended_by (Accepted count) = Done
-ended_by (Refused op code) = EndedRefused
-
-abbrev pub verdict_text : Verdict → List ℕ
-verdict_text (Accepted count) = accepted_text count
-verdict_text (Refused op code) = refused_text op code
 
 -- the call that makes each edit was given this change, under the ticket of the edit's session, and answered this
 abbrev pub EditsDeviceBy : NamedEdit → {D : Type 0} → DeviceStep D → List Op → Result Verdict Told → Type 0

@@ -9,7 +9,7 @@ use std::alloc::AllocError;
 use std::io::Write;
 
 /// Why what is asked for by names isn't answered.
-#[derive(Clone, Copy, Debug, PartialEq, Eq, Drop)]
+#[derive(Clone, Copy, Drop)]
 pub enum AskedRefused<'a> {
     /// A word stands for no node, or a text is no op.
     Word(OpRefused<'a>),

@@ -171,8 +171,5 @@ fn ended_after(routes: &[Route]) -> Ended
 fn is_along(route: &Route) -> bool
     ensures { result ≡ is_along route.now }
 {
-    match route {
-        Route::Along(_) => true,
-        Route::Unreachable => false,
-    }
+    matches!(route, Route::Along(_))
 }
