@@ -27,9 +27,9 @@ pub(crate) fn is_right(trail: &Trail, plain: &PlainGraph, from: u16, to: u16) ->
     ends && long == trail.length && least.is_some_and(|least| long <= least.saturating_mul(3))
 }
 
-/// One drawn graph of 1 to 9 nodes with drawn landmarks: whether its scheme is the same under each allocator, and every
-/// route right by the plain distances.
-fn is_routed(rt: &impl Abort, alloc: Global, rng: &mut Xoshiro256PlusPlus) -> bool {
+/// Sees of one drawn graph of 1 to 9 nodes with drawn landmarks that its scheme is the same under each allocator, and every route right by
+/// the plain distances.
+fn expect_routed(rt: &impl Abort, alloc: Global, rng: &mut Xoshiro256PlusPlus) {
     let nodes = 1 + (rng.next_u64() % 9) as u16;
     let edges = got(rt, drawn_edges(alloc, rng, nodes, 9, (3, 10)));
     let at = got(rt, drawn_nodes(alloc, rng, nodes, (1, 3)));
@@ -37,11 +37,11 @@ fn is_routed(rt: &impl Abort, alloc: Global, rng: &mut Xoshiro256PlusPlus) -> bo
     let scheme = same_under_each(rt, alloc, &graph, &at);
     let plain = got(rt, PlainGraph::new(alloc, nodes, &edges));
     for from in 0..nodes {
-        if !are_right(rt, alloc, &scheme, &plain, from) {
-            return false;
+        for to in 0..nodes {
+            let answer = carried(rt, alloc, &scheme, from, to);
+            assert!(rt; is_routed(answer, &plain, from, to));
         }
     }
-    true
 }
 
 /// The scheme of a graph, which is the same by trees and over lists, under each allocator.
@@ -57,33 +57,18 @@ fn same_under_each(rt: &impl Abort, alloc: Global, graph: &Graph, at: &[u16]) ->
     scheme
 }
 
-/// Whether the routes from a node to all are right by the plain distances.
-fn are_right(
-    rt: &impl Abort,
-    alloc: Global,
-    scheme: &Scheme,
-    plain: &PlainGraph,
-    from: u16,
-) -> bool {
-    for to in 0..plain.nodes {
-        let right = match carried(rt, alloc, scheme, from, to) {
-            Ok(trail) => is_right(&trail, plain, from, to),
-            Err(refused) => {
-                refused == CarryRefused::Unreachable && plain.distance(from, to).is_none()
-            }
-        };
-        if !right {
-            return false;
-        }
+/// Whether a route is right by the plain distances, or whether there is none.
+fn is_routed(answer: Result<Trail, CarryRefused>, plain: &PlainGraph, from: u16, to: u16) -> bool {
+    match answer {
+        Ok(trail) => is_right(&trail, plain, from, to),
+        Err(refused) => refused == CarryRefused::Unreachable && plain.distance(from, to).is_none(),
     }
-    true
 }
 
 #[test]
 fn drawn_graphs_are_routed(rt: HostRuntime) {
     let mut rng = Xoshiro256PlusPlus::seed_from_u64(7);
     for _ in 0..100u32 {
-        let right = is_routed(&rt, rt.alloc(), &mut rng);
-        assert!(&rt; right);
+        expect_routed(&rt, rt.alloc(), &mut rng);
     }
 }

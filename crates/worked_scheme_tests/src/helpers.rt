@@ -1,13 +1,13 @@
 // The worked graphs, and what the tests of this crate share: each call is made again where memory was refused.
 use arrayvec::ArrayVec;
 use graph_edits::Graph;
-use heavy_labels::{Label, MOST_LIGHTS, Record};
+use heavy_labels::{Label, MOST_LIGHTS};
 use linked_list_allocator::LocalHeap;
 use node_table::build;
 use sample_networks::{landmarks_at, words_at};
 pub(crate) use sample_networks::{Edge, PATH, TRIANGLE};
 use scheme_builds::scheme_of;
-use schemes::{CarryRefused, Entry, Scheme, Trail};
+use schemes::{CarryRefused, Scheme, Trail};
 use std::alloc::{AllocError, Allocator, Global};
 use std::fmt::Debug;
 use std::process::Abort;
@@ -105,20 +105,4 @@ pub(crate) fn label(first: u16, ports: &[u16]) -> Label {
         let _full = lights.try_push(*port);
     }
     Label::new(first, lights)
-}
-
-/// An entry for a root, at a distance, by a parent; the numbers and the ports of its record.
-pub(crate) fn entry(
-    rt: &impl Abort,
-    tree: (u16, u64, Option<u16>),
-    numbers: (u16, u16, u16, u8),
-    ports: (Option<u16>, Option<u16>),
-) -> Entry {
-    let (root, distance, parent) = tree;
-    let (first, last, heavy_last, light_depth) = numbers;
-    let Some(tree_record) = Record::new(first, last, heavy_last, light_depth, ports.0, ports.1)
-    else {
-        panic!(rt; "no record");
-    };
-    Entry::new(distance, root, parent, tree_record)
 }

@@ -16,6 +16,8 @@ mod made_up;
 #[cfg(test)]
 mod memory;
 #[cfg(test)]
+mod tables;
+#[cfg(test)]
 mod trees;
 #[cfg(test)]
 mod worked;

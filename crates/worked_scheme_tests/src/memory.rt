@@ -19,8 +19,7 @@ fn builds_after_a_want_of_memory(rt: HostRuntime) {
 
 #[test]
 fn carries_after_a_want_of_memory(rt: HostRuntime) {
-    let alloc = rt.alloc();
-    let rt = &rt;
+    let (rt, alloc) = (&rt, rt.alloc());
     let scheme = scheme_with(rt, alloc, 5, &PATH, &[2]);
     let trail = got(rt, carried(rt, alloc, &scheme, 0, 4));
     let found = trail.nodes.as_slice();
@@ -82,8 +81,7 @@ const DRAWS: [(u16, &[u64]); 2] = [
 
 #[test]
 fn draws_after_a_want_of_memory(rt: HostRuntime) {
-    let alloc = rt.alloc();
-    let rt = &rt;
+    let (rt, alloc) = (&rt, rt.alloc());
     let mut draws = Draws::seeded(1);
     for (count, want) in &DRAWS {
         let words = match draws.next(alloc, *count) {
@@ -97,8 +95,7 @@ fn draws_after_a_want_of_memory(rt: HostRuntime) {
 /// A scratch that is too small is refused, and all that was taken of it is given back.
 #[test]
 fn builds_over_a_scratch_that_is_enough(rt: HostRuntime) {
-    let alloc = rt.alloc();
-    let rt = &rt;
+    let (rt, alloc) = (&rt, rt.alloc());
     let graph = graph_of(rt, alloc, 5, &PATH);
     for (size, enough) in &[
         (64usize, false),

@@ -72,8 +72,7 @@ fn star(rt: &impl Abort, alloc: Global) -> Graph {
 /// heap of a few bytes.
 #[test]
 fn one_tree_at_a_time(rt: HostRuntime) {
-    let alloc = rt.alloc();
-    let rt = &rt;
+    let (rt, alloc) = (&rt, rt.alloc());
     let room = room_of_one(rt, alloc);
     let heap = heap_of(rt, alloc, room.saturating_add(room / 2));
     same(rt, holds_two(rt, alloc, &heap), false, "two trees");

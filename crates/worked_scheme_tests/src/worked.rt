@@ -31,8 +31,7 @@ fn copies_of_packets(rt: &impl Abort, scheme: &Scheme) {
 /// Copies are equal to what they are copied from, and differ from all else.
 #[test]
 fn copies(rt: HostRuntime) {
-    let alloc = rt.alloc();
-    let rt = &rt;
+    let (rt, alloc) = (&rt, rt.alloc());
     let scheme = scheme_with(rt, alloc, 5, &PATH, &[2]);
     let (near, far) = (got(rt, scheme.address(0)), got(rt, scheme.address(4)));
     assert!(rt; far.copy() == far);
@@ -60,8 +59,7 @@ const LENGTHS: [(&[u16], u64); 5] = [
 
 #[test]
 fn first_words_and_lengths(rt: HostRuntime) {
-    let alloc = rt.alloc();
-    let rt = &rt;
+    let (rt, alloc) = (&rt, rt.alloc());
     for (count, want) in &FIRST_WORDS {
         let words = got(rt, first_words(alloc, &[4, 5, 6], *count));
         same(rt, words.as_slice(), *want, "first words");
@@ -153,8 +151,7 @@ fn goes_end_to_end(rt: &impl Abort, alloc: Global) {
 
 #[test]
 fn long_paths_from_end_to_end(rt: HostRuntime) {
-    let alloc = rt.alloc();
-    let rt = &rt;
+    let (rt, alloc) = (&rt, rt.alloc());
     let handle = got(rt, rt.clone());
     let thread = thread::Builder::new().stack_size(STACK_LEN);
     let started = thread.spawn(rt, move || goes_end_to_end(&handle, alloc));
