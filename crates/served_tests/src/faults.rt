@@ -1,5 +1,5 @@
 // What ends a run without its lines, and outputs that refuse.
-use crate::helpers::{Asked, fresh, got, holds, reopened, run_plain, same, text_of};
+use crate::helpers::{Asked, fresh, holds, reopened, run_plain, same, text_of};
 use disk_trait::{CrashDisk, MemDisk};
 use std::alloc::Global;
 use std::process::Abort;
@@ -33,7 +33,6 @@ fn fails_at<R: Threads + Wait + Abort + Sync>(rt: &R, alloc: Global, call: u64) 
     disk.fail_at(call);
     let (mut out, mut err) = (Vec::new(alloc), Vec::new(alloc));
     let (status, disk) = run_plain(rt, alloc, disk, &PATH, &mut out, &mut err);
-    let disk = got(rt, disk.ok_or("no thread"));
     if status != 0 {
         let found = (status, text_of(rt, &out), text_of(rt, &err));
         same(rt, found, FAILED, "a call that fails");
@@ -76,7 +75,7 @@ fn outputs_that_refuse(rt: HostRuntime) {
         let (status, disk) = run_plain(rt, alloc, disk, &TWO_EDITS, &mut out, &mut err);
         let want = (1, "tznode: input or output failed\n");
         same(rt, (status, text_of(rt, &err)), want, "told");
-        let store = reopened(rt, alloc, got(rt, disk.ok_or("no thread")));
+        let store = reopened(rt, alloc, disk);
         holds(rt, &store, (2, 1, 2));
         same(rt, store.graph().weight(0, 1), Some(2), "the edge");
     }

@@ -1,5 +1,5 @@
 // Routes that are launched or carried on just where the device holds a commit.
-use crate::helpers::{Asked, fresh, got, run, same, text_of};
+use crate::helpers::{Asked, fresh, got, run_to_end, same, text_of};
 use committer_thread::Gate;
 use std::alloc::Global;
 use std::process::Abort;
@@ -30,11 +30,10 @@ const SIXTH: Hold = Hold {
     generation: 5,
 };
 
-/// What the gate and the disk tell each other, and what is held: no packet starts before the first hold, and none goes on behind a
-/// hop before the last.
+/// What the gate and the disk tell each other, and the last hold: no packet starts before the first, that of the second commit, and none goes
+/// on behind a hop before the last.
 #[derive(Drop)]
 struct Signs {
-    first: Hold,
     last: Hold,
     syncs: AtomicU64,
     // In which generation a hop was answered last.
@@ -43,9 +42,8 @@ struct Signs {
 }
 
 impl Signs {
-    fn new(first: Hold, last: Hold) -> Signs {
+    fn new(last: Hold) -> Signs {
         Signs {
-            first,
             last,
             syncs: AtomicU64::new(0),
             hopped: AtomicU64::new(0),
@@ -64,8 +62,8 @@ impl Signs {
 
     // Whether the sync of this number ends well: it isn't held, or the hop came that it is held for.
     fn ends(&self, sync: u64) -> bool {
-        if sync == self.first.sync {
-            return self.comes(&self.hopped, self.first.generation);
+        if sync == SECOND.sync {
+            return self.comes(&self.hopped, SECOND.generation);
         }
         if sync == self.last.sync {
             return self.comes(&self.hopped, self.last.generation);
@@ -79,7 +77,7 @@ struct HeldGate<'a>(&'a Signs);
 
 impl<'a> Gate for HeldGate<'a> {
     fn before_launch(&self) {
-        let _came = self.0.comes(&self.0.syncs, self.0.first.sync);
+        let _came = self.0.comes(&self.0.syncs, SECOND.sync);
     }
 
     fn after_hop(&self, generation: u64) {
@@ -97,10 +95,9 @@ impl BeforeSync for Signs {
     }
 }
 
-/// A script on a fresh device of so many nodes, what is held, and its lines.
+/// A script on a fresh device of so many nodes, the last hold, and its lines. The first hold is that of the second commit.
 struct Row {
     nodes: u16,
-    first: Hold,
     last: Hold,
     asked: Asked<'static>,
     printed: &'static str,
@@ -108,68 +105,58 @@ struct Row {
 
 // Runs the script, and sees that no turns ran out, the status and all that is printed and told.
 fn expect_row<R: Threads + Wait + Abort + Sync>(rt: &R, alloc: Global, row: &Row) {
-    let signs = got(rt, Arc::new(alloc, Signs::new(row.first, row.last)));
+    let signs = got(rt, Arc::new(alloc, Signs::new(row.last)));
     let hook = got(rt, Arc::try_clone(&signs));
     let disk = HookedDisk::new(fresh(rt, alloc, row.nodes), hook);
-    let gate = HeldGate(&signs);
-    let (mut out, mut err) = (Vec::new(alloc), Vec::new(alloc));
-    let (status, _disk) = run(rt, alloc, disk, &row.asked, &gate, &mut out, &mut err);
-    let here = signs.late.load(Ordering::SeqCst);
-    same(rt, here, false, "turns that ran out");
-    let found = (status, text_of(rt, &out), text_of(rt, &err));
-    same(rt, found, (0, row.printed, ""), "the row");
+    let (out, _disk) = run_to_end(rt, alloc, disk, &row.asked, &HeldGate(&signs));
+    let found = (signs.late.load(Ordering::SeqCst), text_of(rt, &out));
+    same(
+        rt,
+        found,
+        (false, row.printed),
+        "whether turns ran out, and the lines",
+    );
 }
 
-const WHILE_HELD: Row = Row {
-    nodes: 5,
-    first: SECOND,
-    last: SECOND,
-    asked: Asked {
-        words: "at:0",
-        numbers: (2, 2, 64),
-        script: "0 add:0:1:1\n0 set:0:1:2\nroute 0 1\n",
+// In the second row the first words of the seed make 0 and 1 landmarks of three nodes, the next 0 and 2, those behind them 1. Where 0 and 2
+// are, the way from 2 to 1 is that of the tree of 0, in which the parent of 2 is 0; in the other two it goes over the edge between them. In the
+// third row the packet makes its first hop in generation 1, and the next where the shelf holds 2 to 5: it starts anew.
+const ROWS: [Row; 3] = [
+    Row {
+        nodes: 5,
+        last: SECOND,
+        asked: Asked {
+            words: "at:0",
+            numbers: (2, 2, 64),
+            script: "0 add:0:1:1\n0 set:0:1:2\nroute 0 1\n",
+        },
+        printed: "accepted count=1\naccepted count=2\ngeneration=1 route 0 1 length 1\n",
     },
-    printed: "accepted count=1\naccepted count=2\ngeneration=1 route 0 1 length 1\n",
-};
+    Row {
+        nodes: 3,
+        last: SECOND,
+        asked: Asked {
+            words: "draw:7",
+            numbers: (2, 2, 64),
+            script: "0 add:0:1:1 add:1:2:1 add:0:2:2\n0 set:0:1:1\nroute 2 1\n",
+        },
+        printed: "accepted count=1\naccepted count=2\ngeneration=1 route 2 0 1 length 3\n",
+    },
+    Row {
+        nodes: 5,
+        last: SIXTH,
+        asked: Asked {
+            words: "at:0",
+            numbers: (2, 2, 64),
+            script: "0 add:0:1:1 add:1:2:1\n0 set:0:1:2\n0 set:0:1:3\n0 set:0:1:4\n0 set:0:1:5\n0 set:0:1:6\nroute 0 2\n",
+        },
+        printed: "accepted count=1\naccepted count=2\naccepted count=3\naccepted count=4\naccepted count=5\naccepted count=6\ngeneration=5 route 0 1 2 length 6\n",
+    },
+];
 
 #[test]
-fn a_route_while_a_commit_is_held(rt: HostRuntime) {
-    expect_row(&rt, rt.alloc(), &WHILE_HELD);
-}
-
-// Of three nodes the first words of the seed make 0 and 1 landmarks, the next 0 and 2, those behind them 1. Where 0 and 2 are, the
-// way from 2 to 1 is that of the tree of 0, in which the parent of 2 is 0; in the other two it goes over the edge between them.
-const NEXT_WORDS: Row = Row {
-    nodes: 3,
-    first: SECOND,
-    last: SECOND,
-    asked: Asked {
-        words: "draw:7",
-        numbers: (2, 2, 64),
-        script: "0 add:0:1:1 add:1:2:1 add:0:2:2\n0 set:0:1:1\nroute 2 1\n",
-    },
-    printed: "accepted count=1\naccepted count=2\ngeneration=1 route 2 0 1 length 3\n",
-};
-
-#[test]
-fn each_generation_draws_the_next_words(rt: HostRuntime) {
-    expect_row(&rt, rt.alloc(), &NEXT_WORDS);
-}
-
-// The packet makes its first hop in generation 1, and the next where the shelf holds 2 to 5.
-const ANEW: Row = Row {
-    nodes: 5,
-    first: SECOND,
-    last: SIXTH,
-    asked: Asked {
-        words: "at:0",
-        numbers: (2, 2, 64),
-        script: "0 add:0:1:1 add:1:2:1\n0 set:0:1:2\n0 set:0:1:3\n0 set:0:1:4\n0 set:0:1:5\n0 set:0:1:6\nroute 0 2\n",
-    },
-    printed: "accepted count=1\naccepted count=2\naccepted count=3\naccepted count=4\naccepted count=5\naccepted count=6\ngeneration=5 route 0 1 2 length 6\n",
-};
-
-#[test]
-fn a_packet_whose_generation_is_gone_starts_anew(rt: HostRuntime) {
-    expect_row(&rt, rt.alloc(), &ANEW);
+fn routes_while_a_commit_is_held(rt: HostRuntime) {
+    for row in &ROWS {
+        expect_row(&rt, rt.alloc(), row);
+    }
 }

@@ -1,4 +1,6 @@
 // What the tests share: devices, and scripts that are run on them.
+ghost use Rattle.committer_thread.specs.Config.{IsNumber, IsServiceConfig};
+
 use checkpoint::Store;
 use command_output::WatchedWriter;
 use committer_thread::{Gate, OpenGate, ServiceConfig};
@@ -53,26 +55,35 @@ pub(crate) struct Asked<'a> {
     pub(crate) script: &'a str,
 }
 
+// Such a number.
+fn number(rt: &impl Abort, number: u8) -> u8
+    ensures { IsNumber result }
+{
+    assert!(rt; 1 <= number && number <= 64);
+    number
+}
+
 // So many editors, forwarders and places.
-fn config_of(numbers: Numbers) -> ServiceConfig {
+fn config_of(rt: &impl Abort, numbers: Numbers) -> ServiceConfig
+    ensures { IsServiceConfig result }
+{
     let (editors, forwarders, places) = numbers;
     ServiceConfig {
-        editors,
-        forwarders,
-        places,
+        editors: number(rt, editors),
+        forwarders: number(rt, forwarders),
+        places: number(rt, places),
     }
 }
 
-/// Runs a script on a disk. The disk lacks where no thread was made for it.
+/// Runs a script on a disk, and gives the status and the disk.
 pub(crate) fn run<D, G, R, O, E>(
-    rt: &R,
-    alloc: Global,
+    env: Env<'_, R>,
     disk: D,
     asked: &Asked<'_>,
     gate: &G,
     out: &mut O,
     err: &mut E,
-) -> (u8, Option<D>)
+) -> (u8, D)
 where
     D: Disk + Drop + Send,
     G: Gate + Sync,
@@ -80,10 +91,8 @@ where
     O: Write,
     E: Write,
 {
-    let config = config_of(asked.numbers);
-    assert!(rt; 1 <= config.editors && config.editors <= 64);
-    assert!(rt; 1 <= config.forwarders && config.forwarders <= 64);
-    assert!(rt; 1 <= config.places && config.places <= 64);
+    let Env { rt, alloc } = env;
+    let config = config_of(rt, asked.numbers);
     let script = match script(alloc, asked.script, config.editors) {
         Ok(lines) => lines.expect(rt, "a script"),
         Err(_) => script(alloc, asked.script, config.editors)
@@ -96,13 +105,14 @@ where
             .expect(rt, "memory")
             .expect(rt, "words"),
     };
-    let mut faults = WatchedWriter::new(err);
     let device = ServedDevice {
         disk,
         words,
         config,
     };
-    serve_on(Env { rt, alloc }, device, script, gate, out, &mut faults)
+    let env = Env { rt, alloc };
+    let (status, disk) = serve_on(env, device, script, gate, out, &mut WatchedWriter::new(err));
+    (status, disk.expect(rt, "the device comes back"))
 }
 
 /// Runs a script on a disk in memory, with no gate.
@@ -113,8 +123,28 @@ pub(crate) fn run_plain<R: Threads + Wait + Abort + Sync, O: Write, E: Write>(
     asked: &Asked<'_>,
     out: &mut O,
     err: &mut E,
-) -> (u8, Option<MemDisk>) {
-    run(rt, alloc, disk, asked, &OpenGate, out, err)
+) -> (u8, MemDisk) {
+    run(Env { rt, alloc }, disk, asked, &OpenGate, out, err)
+}
+
+/// Runs a script, and sees that it has its lines, and no fault is told. Gives what is printed, and the disk.
+pub(crate) fn run_to_end<D, G, R>(
+    rt: &R,
+    alloc: Global,
+    disk: D,
+    asked: &Asked<'_>,
+    gate: &G,
+) -> (Vec<u8>, D)
+where
+    D: Disk + Drop + Send,
+    G: Gate + Sync,
+    R: Threads + Wait + Abort + Sync,
+{
+    let (mut out, mut err) = (Vec::new(alloc), Vec::new(alloc));
+    let env = Env { rt, alloc };
+    let (status, disk) = run(env, disk, asked, gate, &mut out, &mut err);
+    same(rt, (status, text_of(rt, &err)), (0, ""), "the end");
+    (out, disk)
 }
 
 /// Sees the count of a store, its edges, and the last ticket of its first session.

@@ -1,5 +1,5 @@
 // Long scripts on a file, whose lines are judged by a plain graph.
-use crate::helpers::{Asked, got, reopened, run, same, text_of};
+use crate::helpers::{Asked, got, reopened, run_to_end, same, text_of};
 use crate::plain::{DrawnOp, Plain};
 use crate::printed::{Line, lines_in};
 use checkpoint::{DEVICE_LEN, Store, format};
@@ -143,48 +143,33 @@ impl<'a> Judge<'a> {
             .count()
     }
 
-    // Whether a session's verdicts are those of some places among the accepted changes, in the session's order.
-    fn is_lawful_session(&self, graphs: &[Plain], session: u64) -> bool {
-        let mut at = Some(0);
+    // The ticket of a session's last accepted change, which is how many changes it had submitted with that one; where its verdicts are those of
+    // some places among the accepted changes, in the session's order.
+    fn last_ticket(&self, graphs: &[Plain], session: u64) -> Option<u64> {
+        let (mut at, mut submitted, mut last) = (0usize, 0u64, 0);
         for (line, printed) in self.lines.iter().zip(self.printed) {
             if !line.is_route && line.session == session {
-                at = at.and_then(|at| line.place_from(printed, graphs, at));
-            }
-        }
-        at.is_some()
-    }
-
-    // Whether the routes are right, and neither forwarder goes back to an older generation.
-    fn are_lawful_routes(&self, graphs: &[Plain]) -> bool {
-        let mut newest = [Some(0u64), Some(0)];
-        let mut turn = 0usize;
-        for (line, printed) in self.lines.iter().zip(self.printed) {
-            if line.is_route {
-                let [first, second] = newest;
-                if turn == 0 {
-                    newest = [line.newer(printed, graphs, first), second];
-                } else {
-                    newest = [first, line.newer(printed, graphs, second)];
-                }
-                turn = 1usize.wrapping_sub(turn);
-            }
-        }
-        newest[0].is_some() && newest[1].is_some()
-    }
-
-    // The ticket of a session's last accepted change: how many changes it had submitted with that one.
-    fn last_ticket(&self, session: u64) -> u64 {
-        let mut submitted = 0u64;
-        let mut last = 0;
-        for (line, printed) in self.lines.iter().zip(self.printed) {
-            if !line.is_route && line.session == session {
+                at = line.place_from(printed, graphs, at)?;
                 submitted = submitted.wrapping_add(1);
                 if matches!(printed, Line::Accepted(_)) {
                     last = submitted;
                 }
             }
         }
-        last
+        Some(last)
+    }
+
+    // The newest generations of both forwarders, which take turns, where the routes are right, and neither goes back to an older generation.
+    fn newest(&self, graphs: &[Plain]) -> Option<(u64, u64)> {
+        let (mut next, mut other) = (0, 0);
+        for (line, printed) in self.lines.iter().zip(self.printed) {
+            if line.is_route {
+                let generation = line.newer(printed, graphs, next)?;
+                next = other;
+                other = generation;
+            }
+        }
+        Some((next, other))
     }
 }
 
@@ -205,8 +190,7 @@ impl DrawnLine {
     }
 
     // The generation of a route that is right, where it is no older than this one.
-    fn newer(&self, printed: &Line<'_>, graphs: &[Plain], last: Option<u64>) -> Option<u64> {
-        let last = last?;
+    fn newer(&self, printed: &Line<'_>, graphs: &[Plain], last: u64) -> Option<u64> {
         let generation = match printed {
             Line::NoNode if self.ops[0].a >= 8 => last,
             Line::Along(generation, nodes, length) => {
@@ -274,26 +258,18 @@ fn printed_of<R: Files<File = File> + Threads + Wait + Abort + Sync>(
         numbers: (3, 2, 2),
         script,
     };
-    let (mut out, mut err) = (Vec::new(alloc), Vec::new(alloc));
-    let disk = fresh_file(rt);
-    let (status, _disk) = run(rt, alloc, disk, &asked, &OpenGate, &mut out, &mut err);
-    same(rt, (status, text_of(rt, &err)), (0, ""), "status");
-    out
+    let (printed, _disk) = run_to_end(rt, alloc, fresh_file(rt), &asked, &OpenGate);
+    printed
 }
 
-// Sees that the device has this graph, and the last tickets of the sessions.
-fn holds_all(rt: &impl Abort, store: &Store<FileDisk>, judge: &Judge<'_>, graph: &Plain) {
-    same(rt, store.count(), judge.accepted() as u64, "count");
+// Sees that the device has this graph.
+fn holds_graph(rt: &impl Abort, store: &Store<FileDisk>, graph: &Plain) {
     for a in 0..8u64 {
         for b in 0..8u64 {
             let weight = store.graph().weight(a as u16, b as u16).unwrap_or(0);
             let found = (a, b, weight as u64);
             same(rt, found, (a, b, graph.weight(a, b)), "weight");
         }
-    }
-    for session in 0..3u8 {
-        let want = judge.last_ticket(session as u64);
-        same(rt, store.resume(session), want, "ticket");
     }
 }
 
@@ -308,18 +284,19 @@ fn judged<R: Files<File = File> + Threads + Wait + Abort + Sync>(rt: &R, alloc: 
         printed: &printed,
     };
     let graphs = judge.graphs(rt, alloc);
-    same(rt, judge.accepted() > 10, true, "accepted changes");
-    let found = graphs.len();
-    let want = judge.accepted().wrapping_add(1);
-    same(rt, found, want, "counts go on one by one");
-    for session in 0..3u64 {
-        let found = judge.is_lawful_session(&graphs, session);
-        same(rt, found, true, "a session");
-    }
-    same(rt, judge.are_lawful_routes(&graphs), true, "the routes");
+    let accepted = judge.accepted();
+    same(rt, accepted > 10, true, "accepted changes");
+    let want = accepted.wrapping_add(1);
+    same(rt, graphs.len(), want, "counts go on one by one");
+    same(rt, judge.newest(&graphs).is_some(), true, "the routes");
     let store = reopened(rt, alloc, got(rt, FileDisk::open(rt, PATH)));
-    let last = got(rt, graphs.last().ok_or("no graph"));
-    holds_all(rt, &store, &judge, last);
+    same(rt, store.count(), accepted as u64, "count");
+    holds_graph(rt, &store, got(rt, graphs.last().ok_or("no graph")));
+    for session in 0..3u8 {
+        let found = Some(store.resume(session));
+        let want = judge.last_ticket(&graphs, session as u64);
+        same(rt, found, want, "a session and its ticket");
+    }
 }
 
 #[test]

@@ -50,9 +50,7 @@ fn is_served<R: Threads + Wait + Abort + Sync>(rt: &R, alloc: Global) -> bool {
         let want = (1, "", "tznode: out of memory\n");
         same(rt, (status, printed, told), want, "a run without memory");
     }
-    if let Some(disk) = disk {
-        holds_a_beginning(rt, alloc, disk);
-    }
+    holds_a_beginning(rt, alloc, disk);
     status == 0
 }
 

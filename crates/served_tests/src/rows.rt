@@ -11,13 +11,8 @@ fn script_of(rt: &impl Abort, alloc: Global, editors: u8) -> String {
     let mut text = String::new(alloc);
     for session in 0..editors {
         let next = session as u16 + 1;
-        got(
-            rt,
-            write!(
-                text,
-                "{session} add:{session}:{next}:1\nroute {session} {session}\n"
-            ),
-        );
+        got(rt, writeln!(text, "{session} add:{session}:{next}:1"));
+        got(rt, writeln!(text, "route {session} {session}"));
     }
     text
 }
@@ -57,7 +52,7 @@ fn expect_each_session<R: Threads + Wait + Abort + Sync>(rt: &R, alloc: Global, 
     for (node, line) in lines.iter().skip(1).step_by(2).enumerate() {
         same(rt, stays_at(line, node as u64), true, "a way of one node");
     }
-    let store = reopened(rt, alloc, got(rt, disk.ok_or("no thread")));
+    let store = reopened(rt, alloc, disk);
     holds(rt, &store, (editors as u64, editors as usize, 1));
 }
 

@@ -10,5 +10,5 @@ signs_sync = search (crosses, sendable) depth 40
 signs_send : IsSend signs.the_row
 signs_send = search (crosses, sendable) depth 40
 
-pub run-status-requires-send-D : goal.run-status-requires-send-D
-run-status-requires-send-D g c κs = search (crosses, sendable, hooked_send, signs_sync, signs_send) depth 60
+pub run_to_end-out-requires-send-D : goal.run_to_end-out-requires-send-D
+run_to_end-out-requires-send-D g c κs = search (crosses, sendable, hooked_send, signs_sync, signs_send) depth 60
