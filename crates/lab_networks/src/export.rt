@@ -89,8 +89,7 @@ fn plain_form(form: Option<&str>) -> Option<Form>
     ensures { IfSome result (IsForm (option_map (λ text. text.now) form.entry) None) }
 {
     match form {
-        None => Some(Form::Edges),
-        Some("edges") => Some(Form::Edges),
+        None | Some("edges") => Some(Form::Edges),
         Some("csv") => Some(Form::Csv),
         Some("dimacs") => Some(Form::Dimacs),
         Some("json") => Some(Form::Json),

@@ -238,10 +238,8 @@ impl<R: Files<File = File> + Places + AllocGlobal> Import<'_, R> {
         let kept = kept_alone(self.rt, &self.beside, err)?;
         let most = self.nodes.unwrap_or(MOST_NODES);
         if listed.nodes.unwrap_or(0) > most {
-            let text = format_args!(
-                "it has {} nodes, and --nodes {most}",
-                listed.nodes.unwrap_or(0)
-            );
+            let has = listed.nodes.unwrap_or(0);
+            let text = format_args!("it has {has} nodes, and --nodes {most}");
             return Err(told_of(err, self.file, text));
         }
         let list = self.list_of(listed, &kept, most, false, err)?;

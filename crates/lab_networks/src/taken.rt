@@ -40,7 +40,7 @@ pub trait ToldPlace {
 }
 
 /// What an import came to.
-#[derive(Clone, Copy, Debug, PartialEq, Eq, Drop)]
+#[derive(Clone, Copy, Drop)]
 pub struct Taken {
     /// Whether all edges and their names are in.
     pub edges: Result<(), NamedRefused>,
