@@ -13,7 +13,7 @@ pub enum FormatRefused {
     /// The device hasn't exactly `DEVICE_LEN` bytes.
     #[error("the device has another length")]
     BadLength = 2,
-    /// A call of the device failed: it holds no store.
+    /// A call of the device failed. Some of what is written may be there, even all: whether it holds a store isn't said.
     #[error("a call of the device failed")]
     Device = 3,
 }
