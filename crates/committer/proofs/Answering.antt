@@ -100,4 +100,4 @@ idle_on {D = D} {V = V} mid new group is idle = subst (λ (g : Group D V). (sett
 
 -- nothing was taken or committed, twice
 pub put_twice : {D R : Type 0} {V : _} → (old mid new : Committer D R V) → StaysPut old mid → StaysPut mid new → StaysPut old new
-put_twice old mid new first second = record { store = second.store ∙ first.store; held = second.held ∙ first.held; taker = second.taker ∙ first.taker }
+put_twice old mid new first second = record { store = second.store ∙ first.store; held = second.held ∙ first.held; taker = second.taker ∙ first.taker; begun = second.begun ∙ first.begun }

@@ -10,3 +10,4 @@ pub mod Crashing
 pub mod Listings
 pub mod GivenOut
 pub mod Answering
+pub mod Leading

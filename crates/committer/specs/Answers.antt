@@ -18,7 +18,7 @@ use Rattle.committer.specs.declared.refused.RoundRefused.TheVariants.{Board}
 use Rattle.committer.specs.Outboxes.{Outgoing, all_of, paid, with_posted, with_due}
 use Rattle.committer.specs.Rounds.{with_marks_of, TellsUpTo}
 use Rattle.committer.specs.Crashes.{LeavesGroupWhole}
-use Rattle.committer.specs.CommitterWords.{desk_of, store_of, held_of, taker_of, got_of, empties_of, posts_of, held_or_taken}
+use Rattle.committer.specs.CommitterWords.{begun_of, desk_of, store_of, held_of, taker_of, got_of, empties_of, posts_of, held_or_taken}
 use Rattle.committer.specs.Listed.{StaysListed}
 use Rattle.committer.specs.Rebuilds.{IsBuilt, IsNumbered, IsOwed, IsServed}
 
@@ -47,6 +47,8 @@ pub record StaysPut {D R : Type 0} {V : _} (old new : Committer D R V) : Type 0 
   pub store : store_of new ≡ store_of old
   pub held : held_of new ≡ held_of old
   pub taker : taker_of new ≡ taker_of old
+  -- it is the same committer
+  pub begun : begun_of new ≡ begun_of old
 
 -- ---- what becomes of a group
 
@@ -131,6 +133,7 @@ pub record StaysOwed {D R : Type 0} {V : _} (old new : Committer D R V) : Type 0
 pub record GoesOn {D R : Type 0} {V : _} (old new : Committer D R V) : Type 0 where
   pub nodes : nodes_of (store_of new) ≡ nodes_of (store_of old)
   pub ran : IsSameDevice (view_of (store_of old)) (view_of (store_of new))
+  pub begun : begun_of new ≡ begun_of old
   -- what was taken stays one list, and what is posted and due goes with it
   pub listed : StaysListed old new
 

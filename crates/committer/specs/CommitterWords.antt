@@ -4,6 +4,7 @@ use Rattle.atomic_table.specs.Seated.{TableId}
 use Rattle.checkpoint.specs.declared.store.Store.{Store}
 use Rattle.checkpoint.specs.StoreWords.{state_of}
 use Rattle.requests.specs.declared.request.Request.{Request}
+use Rattle.layout_2.specs.State.{State}
 use Rattle.intake.specs.Ends.{Taking}
 use Rattle.group_commit.specs.DeskWords as desk
 use Rattle.group_commit.specs.declared.desk.Desk.{Desk}
@@ -14,6 +15,10 @@ use Rattle.committer.specs.Outboxes.{Outgoing}
 -- its desk
 abbrev pub desk_of : {D R : Type 0} {V : _} → Committer D R V → Desk D V
 desk_of c = c.desk
+
+-- the state from which it began
+abbrev pub begun_of : {D R : Type 0} {V : _} → Committer D R V → State
+begun_of c = state_of c.begun.value
 
 -- its store
 abbrev pub store_of : {D R : Type 0} {V : _} → Committer D R V → Store D V

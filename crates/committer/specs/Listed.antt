@@ -12,7 +12,7 @@ use Rattle.request_lists.specs.declared.builds.Builds.TheVariants.{Beside}
 use Rattle.request_lists.specs.Lists.{AreListed}
 use Rattle.committer.specs.declared.committer.Committer.{Committer}
 use Rattle.committer.specs.Outboxes.{Outgoing, all_of}
-use Rattle.committer.specs.CommitterWords.{store_of, held_of, got_of, posts_of}
+use Rattle.committer.specs.CommitterWords.{begun_of, store_of, held_of, got_of, posts_of}
 
 -- From the state `first` on these requests were taken, in each session's order: those before a place are settled, and the others held.
 pub record IsListed (builds : Builds) (first : State) (posts : Outgoing) (held got : List Request) (state : State) (down : Bool) : Type 0 where
@@ -43,6 +43,6 @@ pub record IsEarlier {D R : Type 0} {V : _} (first : State) (c : Committer D R V
   pub named : scheme.generation ≡ number
   pub serves : Serves (settle first (take at (got_of c))).state.graph (tables scheme)
 
--- with such a generation told, what was listed still is, where generations are built beside the rounds
-abbrev pub KeepsWithEarlier : {D R : Type 0} {V : _} → ℕ → Parts → Committer D R V → Committer D R V → Type 0
-KeepsWithEarlier number scheme old new = (first : State) → IsEarlier first old number scheme → IsListedFrom Beside first old → IsListedFrom Beside first new
+-- from the committer's beginning on, what was listed at one moment still is at another, where generations are built beside the rounds
+abbrev pub StaysListedBegun : {D R : Type 0} {V : _} → Committer D R V → Committer D R V → Type 0
+StaysListedBegun old new = IsListedFrom Beside (begun_of old) old → IsListedFrom Beside (begun_of old) new

@@ -3,7 +3,7 @@ ghost use Rattle.std.specs.Prelude.{◌≡◌, ◌≢◌, ◌⊎◌, ◌≤◌, 
 ghost use Rattle.std.specs.Arc.{arc_value};
 ghost use Rattle.requests.specs.Tickets.{Rises};
 ghost use Rattle.requests.specs.declared.request.Request.{Request};
-ghost use Rattle.layout_2.specs.State.{asked as asked_all};
+ghost use Rattle.layout_2.specs.State.{State, asked as asked_all};
 ghost use Rattle.checkpoint.specs.Kept.{kept_props};
 ghost use Rattle.checkpoint.specs.StoreWords.{state_of, view_of, is_down};
 ghost use Rattle.schemes.specs.Tables.{tables};
@@ -15,10 +15,11 @@ ghost use Rattle.scheme_builds.specs.Schemes.{IsSchemeOf};
 ghost use Rattle.group_commit.specs.DeskWords.{store_of as desk_store, held_of as desk_held, due_of as desk_due};
 ghost use Rattle.group_commit.specs.Limits.{most_held};
 ghost use Rattle.request_lists.specs.declared.builds.Builds.{Builds};
+ghost use Rattle.request_lists.specs.declared.builds.Builds.TheVariants.{Beside};
 ghost use Rattle.request_lists.specs.Lists.{IsAhead};
 ghost use Rattle.committer.specs.Outboxes.{all_of, with_posted};
 ghost use Rattle.committer.specs.Turns.{HoldsNoLater};
-ghost use Rattle.committer.specs.Ties.{IsTied};
+ghost use Rattle.committer.specs.Ties.{IsLed, IsTied, led_props};
 ghost use Rattle.committer.specs.Rounds.{TellsUpTo};
 ghost use Rattle.committer.specs.Crashes.{LeavesGroupWhole};
 ghost use Rattle.committer.specs.Rebuilds.{IsNumbered};
@@ -34,6 +35,7 @@ use intake::{Editor, Taker, Watcher};
 use scheme_builds::scheme_of;
 use schemes::Scheme;
 use std::alloc::{AllocError, Allocator, Global};
+use std::snapshot::Snapshot;
 use std::sync::{Arc, Wait};
 
 /// The one owner of a desk, of the front of a queue and of a board's writer.
@@ -43,11 +45,15 @@ pub struct Committer<D: Disk, R: Wait + Drop> {
     taker: Taker,
     outbox: Outbox<R>,
     newest: Option<u64>,
+    // The store at its beginning, for contracts alone.
+    begun: Snapshot<Store<D>>,
     // What is due is at the outbox.
     ghost at_outbox: { is_some (desk_due desk) ≡ false },
     ghost same_starts: { taker.starts ≡ outbox.opening.starts },
     ghost tied: { IsTied outbox.opening (all_of outbox) newest (desk_held desk) taker.got
         (state_of (desk_store desk)) (is_down (desk_store desk)) } by { Prim.hlevel kept_props },
+    // What was taken and isn't held led from its beginning to the store's state.
+    ghost led: { IsLed (state_of begun.value) (desk_held desk) taker.got (state_of (desk_store desk)) } by { Prim.hlevel led_props },
     // A crash now leaves the state of the store, or the one with the whole group that is held.
     ghost whole: { IsTrue (view_of (desk_store desk)).keeps_model
         → LeavesGroupWhole (desk_store desk) (desk_held desk) } by { Prim.hlevel kept_props },
@@ -92,8 +98,8 @@ fn fill<D: Disk, W: Wait>(rt: &W, taker: &mut Taker, desk: &mut Desk<D>) -> usiz
 }
 
 impl<D: Disk, R: Wait + Drop> Committer<D, R> {
-    ghost use Rattle.committer.specs.CommitterWords.{store_of, held_of, taker_of, queue_of, got_of, empties_of, posts_of, newest_of, taken, held_or_taken, settled};
-    ghost use Rattle.committer.specs.Listed.{IsListedFrom, KeepsWithEarlier, StaysListed};
+    ghost use Rattle.committer.specs.CommitterWords.{begun_of, store_of, held_of, taker_of, queue_of, got_of, empties_of, posts_of, newest_of, taken, held_or_taken, settled};
+    ghost use Rattle.committer.specs.Listed.{IsEarlier, IsListedFrom, StaysListed, StaysListedBegun};
     ghost use Rattle.committer.specs.Answers.{Takes, MayTakeFewer, StaysPut, asked_group, held_group, settled_group, HasCommitted, OwesMarks, KeepsGroup, IsWorn, LosesDevice, LeavesEither, StaysDown, StaysOwed, GoesOn, IsAtRest, FindsDue, HasRebuilt, LacksScheme, IsNotTaken, IsDueOrDropped};
 
     /// A committer of a desk, a queue and a board at their beginning.
@@ -114,15 +120,18 @@ impl<D: Disk, R: Wait + Drop> Committer<D, R> {
         ensures queue { queue_of result ≡ taker.queue }
         ensures taker { taker_of result ≡ taker }
         ensures posts { posts_of result ≡ record { opening = writer.opening; posted = []; due = [] } }
+        ensures begun { begun_of result ≡ state_of (desk_store desk) }
         // From the store's state on nothing was taken or posted yet.
         ensures listed { (builds : Builds) → IsListedFrom builds (state_of (store_of result)) result }
     {
         let outbox = Outbox::new(writer);
+        let begun = Snapshot::of(desk.store());
         Committer {
             desk,
             taker,
             outbox,
             newest: None,
+            begun,
         }
     }
 
@@ -202,6 +211,7 @@ impl<D: Disk, R: Wait + Drop> Committer<D, R> {
 
         ensures takes { Takes (held_of self.old) (taker_of self.old) (taker_of self.new) }
         ensures number { result ≡ length (taken self.old self.new) }
+        ensures begun { begun_of self.new ≡ begun_of self.old }
         ensures fewer { length (taken self.old self.new) < most_held
             → (held_of self.old ≢ []) ⊎ (empties_of self.old < empties_of self.new) }
 
@@ -339,13 +349,38 @@ impl<D: Disk, R: Wait + Drop> Committer<D, R> {
         // What was taken stays one list, where the scheme has the number too.
         ensures listed { (arc_value scheme).generation ≡ number → StaysListed self.old self.new }
     {
-        self.announce_earlier(number, scheme)
+        self.offer_generation(number, scheme)
     }
 
-    /// Offers a generation that was built beside the rounds: its scheme serves the graph that the store had when it had this count.
+    /// Offers a generation that was built beside the rounds: its scheme serves the graph that the store had when it had this count, the
+    /// state to which the first so many of the settled requests led from the committer's beginning.
     ///
     /// It is refused as `Board` alone, as by [`Committer::announce`].
     pub fn announce_earlier(
+        &mut self,
+        number: u64,
+        scheme: Arc<Scheme, Global>,
+    ) -> Result<u64, RebuildRefused>
+        requires nothing_due { (posts_of self.old).due ≡ [] }
+        requires up { is_down (store_of self.old) ≡ false }
+        requires ahead { IsAhead number (all_of (posts_of self.old)) }
+        requires earlier { IsEarlier (begun_of self.old) self.old number (arc_value scheme) }
+        ensures number { IfOk result (λ n. n ≡ number) }
+        ensures posted { OnOk result
+            (posts_of self.new ≡ with_posted (posts_of self.old) (Built number (arc_value scheme))) }
+        ensures only_board { IsErr result → IsErrOf result RebuildRefused.Board }
+        ensures board { IsErrOf result RebuildRefused.Board
+            → IsDueOrDropped (Built number (arc_value scheme)) self.old self.new }
+
+        ensures stays { StaysPut self.old self.new }
+        // What was taken stays one list, from its beginning on.
+        ensures listed { StaysListedBegun self.old self.new }
+    {
+        self.offer_generation(number, scheme)
+    }
+
+    // Offers a generation under a number that the store has reached; where that is its count, the scheme serves its graph.
+    fn offer_generation(
         &mut self,
         number: u64,
         scheme: Arc<Scheme, Global>,
@@ -364,8 +399,8 @@ impl<D: Disk, R: Wait + Drop> Committer<D, R> {
             → IsDueOrDropped (Built number (arc_value scheme)) self.old self.new }
 
         ensures stays { StaysPut self.old self.new }
-        // What was taken stays one list, where the scheme is that of a state which the list led to.
-        ensures listed { KeepsWithEarlier number (arc_value scheme) self.old self.new }
+        ensures earlier { (first : State) → IsEarlier first self.old number (arc_value scheme)
+            → IsListedFrom Beside first self.old → IsListedFrom Beside first self.new }
     {
         match self.outbox.offer(Posting::Generation { number, scheme }) {
             Offered::Posted => {

@@ -1,5 +1,5 @@
 -- How builds go on beside the rounds.
-use Rattle.std.proofs.Common.{◌≡◌, ◌≢◌, ◌≤◌, ◌<◌, ℕ, List, [], ◌++◌, length, take, drop, Option, Some, None, IsTrue, sym, ap, ◌∙◌, subst, append-nil, arith, length-append, le_refl}
+use Rattle.std.proofs.Common.{◌≡◌, ◌≢◌, ◌≤◌, ◌<◌, ℕ, List, [], ◌-◌, ◌++◌, length, take, Option, Some, None, IsTrue, sym, ap, ◌∙◌, subst, append-nil, arith, length-append, le_refl}
 use Rattle.std.specs.Prelude.{IfSome}
 use Rattle.std.specs.Option.{option_map}
 use Rattle.std.proofs.lemmas.List.{take-append-le}
@@ -14,21 +14,22 @@ use Rattle.schemes.specs.Tables.{tables}
 use Rattle.schemes.specs.Service.{Serves}
 use Rattle.generations.specs.declared.posting.Notice.{Notice}
 use Rattle.generations.specs.Notices.{newest_in}
-use Rattle.group_commit.specs.Settling.{Settled, settle}
+use Rattle.group_commit.specs.Settling.{settle}
 use Rattle.request_lists.specs.declared.builds.Builds.{Builds}
 use Rattle.request_lists.specs.declared.builds.Builds.TheVariants.{Beside}
 use Rattle.request_lists.specs.Lists.{IsAhead}
-use Rattle.request_lists.proofs.Steps.{first_count, settled_on}
+use Rattle.request_lists.proofs.Steps.{first_count}
 use Rattle.committer.specs.declared.committer.Committer.{Committer}
 use Rattle.committer.specs.Answers.{StaysPut}
-use Rattle.committer.specs.CommitterWords.{got_of, held_of, posts_of, settled, store_of, taken}
-use Rattle.committer.specs.Listed.{IsEarlier, IsListedFrom, StaysListed, StaysListedSo}
+use Rattle.committer.specs.CommitterWords.{begun_of, got_of, held_of, posts_of, settled, store_of, taken}
+use Rattle.committer.specs.Listed.{IsEarlier, IsListedFrom, StaysListed, StaysListedBegun, StaysListedSo}
 use Rattle.committer.specs.Outboxes.{all_of}
+use Rattle.committer.specs.Ties.{before_held}
 use Rattle.committer.proofs.Settles.{settles}
 use Rattle.service_actors.specs.declared.graphs.GenerationGraph.{GenerationGraph}
 use Rattle.committer_thread.specs.declared.beside.Build.{Build}
 use Rattle.committer_thread.specs.declared.committing.RebuildSchedule.{RebuildSchedule}
-use Rattle.committer_thread.specs.Beside.{GoesBeside, IsOnWay, MayStand, StaysListedWith, graph_of}
+use Rattle.committer_thread.specs.Beside.{GoesBeside, IsOnWay, graph_of}
 use Rattle.committer_thread.specs.Kept.{HasSettled, HasSettledAll, HasTurned, IsFresh, IsOnCourse}
 use Rattle.committer_thread.specs.Pace.{IsShown}
 use Rattle.committer_thread.specs.Tables.{IsBuiltOf, IsGraphOf}
@@ -54,29 +55,14 @@ on_way_whole s got state newest of is here ahead = record {
   ahead = ahead;
 }
 
--- two beginnings of a list that lead to the same count lead to the same graph
-same_graph : (s : State) (got : List Request) (a b : ℕ) → a ≤ b → (settle s (take a got)).state.count ≡ (settle s (take b got)).state.count → (settle s (take a got)).state.graph ≡ (settle s (take b got)).state.graph
-same_graph s got a b le same =
-    let mid : State = (settle s (take a got)).state in
-    let rest : List Request = drop a (take b got) in
-    let on : (settle s (take b got)).state ≡ (settle mid rest).state = ap (λ (t : Settled). t.state) (settled_on s got a b le) in
-    let then = settles mid rest in
-    let count : (settle mid rest).state.count ≡ (settle s (take b got)).state.count = ap (λ (x : State). x.count) (sym on) in
-    let more = then.count in
-    sym (ap (λ (x : State). x.graph) on ∙ then.graph (omega (arith, more, count, same)))
-
--- it may be posted, where all that was taken is settled
-pub may_stand : (s : State) (got : List Request) (state : State) (newest : Option ℕ) (of : GenerationGraph) → state ≡ (settle s got).state → IsOnWay s got newest of → MayStand state newest of
-may_stand s got state newest of is way =
+-- the store has reached its number, where all that was taken is settled
+pub way_reached : (s : State) (got : List Request) (state : State) (newest : Option ℕ) (of : GenerationGraph) → state ≡ (settle s got).state → IsOnWay s got newest of → of.generation ≤ state.count
+way_reached s got state newest of is way =
     let whole : (settle s (take (length got) got)).state ≡ state = ap (λ (l : List Request). (settle s l).state) (take-length got) ∙ sym is in
     let all : (settle s (take (length got) got)).state.count ≡ state.count = ap (λ (x : State). x.count) whole in
     let few = first_count s got way.at (length got) way.within in
     let number = way.of_state.number in
-    record {
-      reached = omega (arith, few, all, number);
-      ahead = way.ahead;
-      same = λ e. way.of_state.graph ∙ (same_graph s got way.at (length got) way.within (sym number ∙ (e ∙ sym all)) ∙ ap (λ (x : State). x.graph) whole);
-    }
+    omega (arith, few, all, number)
 
 -- its number is above all that are posted
 pub is_ahead : {D R : Type 0} {V : _} → (c : Committer D R V) (newest : Option ℕ) (number : ℕ) → IsShown newest c → IfSome newest (λ n. n < number) → IsAhead number (all_of (posts_of c))
@@ -133,10 +119,15 @@ number_more : (P Q : ℕ → Type 0) (number : Option ℕ) → ((n : ℕ) → P 
 number_more P Q (Some n) then is = then n is
 number_more P Q None then is = tt
 
+-- it begins in its store's state
+begun_fresh : {D R : Type 0} {V : _} → (c : Committer D R V) → IsFresh c → begun_of c ≡ state_of (store_of c)
+begun_fresh c fresh = sym (c.led.led ∙ ap (λ (l : List Request). (settle (begun_of c) (before_held (held_of c) l)).state) fresh.got ∙ ap (λ (l : List Request). (settle (begun_of c) l).state) (take-nil (0 - length (held_of c))))
+
 -- at the beginning
 pub goes_first : {D R : Type 0} {V : _} → (c : Committer D R V) (rebuilds : RebuildSchedule) → IsFresh c → IsShown None c → rebuilds.newest ≡ None → rebuilds.building ≡ None → GoesBeside c c rebuilds
 goes_first c rebuilds fresh bare newest none = record {
   begun = fresh.got;
+  from = begun_fresh c fresh;
   on = on_course_first c fresh;
   shown = subst (λ (n : Option ℕ). IsShown n c) (sym newest) bare;
   reached = subst (λ (n : Option ℕ). IfSome n (λ k. k ≤ (state_of (store_of c)).count)) (sym newest) tt;
@@ -153,6 +144,7 @@ goes_round first old new rebuilds goes turn done lists shown =
     let before = goes.reached in
     record {
       begun = goes.begun;
+      from = turn.begun ∙ goes.from;
       on = on_course_still first old new goes.on turn done lists;
       shown = shown;
       reached = number_more (λ (n : ℕ). n ≤ (state_of (store_of old)).count) (λ (n : ℕ). n ≤ (state_of (store_of new)).count) rebuilds.newest (λ n is. omega (arith, count, after, is)) before;
@@ -166,30 +158,30 @@ pub way_of : {D R : Type 0} {V : _} → (first now : Committer D R V) (rebuilds 
 way_of first now rebuilds build goes some = subst (λ (o : Option Build). IfSome o (λ b. IsOnWay (state_of (store_of first)) (got_of now) rebuilds.newest (graph_of b))) some goes.building
 
 -- what was taken stays one list with what was built
-pub goes_listed : {D R : Type 0} {V : _} → (first old new : Committer D R V) (rebuilds : RebuildSchedule) (build : Build) → GoesBeside first old rebuilds → rebuilds.building ≡ Some build → StaysListedWith (graph_of build) old new → StaysListedSo Beside first new
-goes_listed first old new rebuilds build goes some lists s is =
-    let same = listed_state Beside s first goes.begun is in
-    lists s rebuilds.newest (subst (λ (x : State). IsOnWay x (got_of old) rebuilds.newest (graph_of build)) (sym same) (way_of first old rebuilds build goes some)) (goes.on.listed s is)
+pub goes_listed : {D R : Type 0} {V : _} → (first old new : Committer D R V) (rebuilds : RebuildSchedule) → GoesBeside first old rebuilds → StaysListedBegun old new → StaysListedSo Beside first new
+goes_listed first old new rebuilds goes lists s is =
+    let same : s ≡ begun_of old = listed_state Beside s first goes.begun is ∙ sym goes.from in
+    subst (λ (x : State). IsListedFrom Beside x new) (sym same) (lists (subst (λ (x : State). IsListedFrom Beside x old) same (goes.on.listed s is)))
 
 -- a newest number that isn't passed, and isn't this one, is below
 below : (newest : Option ℕ) (count : ℕ) → IfSome newest (λ n. n ≤ count) → newest ≢ Some count → IfSome newest (λ n. n < count)
 below (Some n) count le other = (let most : n ≤ count = le in let apart : n ≢ count = λ same. other (ap (λ (k : ℕ). Some k) same) in omega (arith, most, apart))
 below None count le other = tt
 
--- it may be posted
-pub goes_stand : {D R : Type 0} {V : _} → (first now : Committer D R V) (rebuilds : RebuildSchedule) (build : Build) → GoesBeside first now rebuilds → rebuilds.building ≡ Some build → MayStand (state_of (store_of now)) rebuilds.newest (graph_of build)
-goes_stand first now rebuilds build goes some =
-    may_stand (state_of (store_of first)) (got_of now) (state_of (store_of now)) rebuilds.newest (graph_of build) goes.on.state (way_of first now rebuilds build goes some)
+-- it is on its way from the committer's beginning
+pub goes_way : {D R : Type 0} {V : _} → (first now : Committer D R V) (rebuilds : RebuildSchedule) (build : Build) → GoesBeside first now rebuilds → rebuilds.building ≡ Some build → IsOnWay (begun_of now) (got_of now) rebuilds.newest (graph_of build)
+goes_way first now rebuilds build goes some = subst (λ (x : State). IsOnWay x (got_of now) rebuilds.newest (graph_of build)) (sym goes.from) (way_of first now rebuilds build goes some)
 
 -- it was posted
-pub goes_posted : {D R : Type 0} {V : _} → (first old new : Committer D R V) (before after : RebuildSchedule) (build : Build) (number : ℕ) → GoesBeside first old before → before.building ≡ Some build → StaysPut old new → StaysListedWith (graph_of build) old new
+pub goes_posted : {D R : Type 0} {V : _} → (first old new : Committer D R V) (before after : RebuildSchedule) (build : Build) (number : ℕ) → GoesBeside first old before → before.building ≡ Some build → StaysPut old new → StaysListedBegun old new
     → number ≡ (graph_of build).generation → IsShown (Some number) new → after.newest ≡ Some number → after.building ≡ None → GoesBeside first new after
 goes_posted first old new before after build number goes some stays lists same shown newest none =
-    let reached = (goes_stand first old before build goes some).reached in
+    let reached = way_reached (state_of (store_of first)) (got_of old) (state_of (store_of old)) before.newest (graph_of build) goes.on.state (way_of first old before build goes some) in
     let count : (state_of (store_of new)).count ≡ (state_of (store_of old)).count = ap (λ s. (state_of s).count) stays.store in
     record {
       begun = goes.begun;
-      on = on_course_put first old new goes.on stays (goes_listed first old new before build goes some lists);
+      from = stays.begun ∙ goes.from;
+      on = on_course_put first old new goes.on stays (goes_listed first old new before goes lists);
       shown = subst (λ (n : Option ℕ). IsShown n new) (sym newest) shown;
       reached = subst (λ (n : Option ℕ). IfSome n (λ k. k ≤ (state_of (store_of new)).count)) (sym newest) (omega (arith, reached, count, same));
       building = subst (λ (o : Option Build). IfSome o (λ b. IsOnWay (state_of (store_of first)) (got_of new) after.newest (graph_of b))) (sym none) tt;
@@ -205,6 +197,7 @@ goes_begun first now before after build goes here behind newest some =
     let way : IsOnWay (state_of (store_of first)) (got_of now) before.newest (graph_of build) = on_way_whole (state_of (store_of first)) (got_of now) state before.newest (graph_of build) goes.on.state here above in
     record {
       begun = goes.begun;
+      from = goes.from;
       on = goes.on;
       shown = subst (λ (n : Option ℕ). IsShown n now) (sym newest) goes.shown;
       reached = subst (λ (n : Option ℕ). IfSome n (λ k. k ≤ state.count)) (sym newest) goes.reached;

@@ -181,6 +181,7 @@ pub turned_still : {D R : Type 0} {V : _} → (old mid new : Committer D R V) �
 turned_still {V = V} old mid new turn stays = record {
   front = (λ i. (stays.taker i).got) ∙ turn.front ∙ ap (λ (l : List Request). got_of old ++ drop (length (got_of old)) l) (sym ((λ i. (stays.taker i).got)));
   same = subst (λ s. IsSameDevice (view_of (store_of old)) (view_of s)) (sym stays.store) turn.same;
+  begun = stays.begun ∙ turn.begun;
   any_moment = λ model up.
       let left = subst (λ s. LeavesOnly (view_of (store_of old)) (view_of s) (λ image. StandsFor (state_of (store_of old)) image ⊎ StandsFor (settled old mid).state image)) (sym stays.store) (turn.any_moment model up) in
       subst (λ (l : List Request). LeavesOnly (view_of (store_of old)) (view_of (store_of new))
@@ -194,6 +195,7 @@ still_turned {V = V} old mid new stays turn =
     record {
       front = subst (λ (l : List Request). got_of new ≡ l ++ drop (length l) (got_of new)) got turn.front;
       same = subst (λ s. IsSameDevice (view_of s) (view_of (store_of new))) stays.store turn.same;
+      begun = turn.begun ∙ stays.begun;
       any_moment = subst (λ (l : List Request). IsTrue (view_of (store_of old)).keeps_model → is_down (store_of old) ≡ false → LeavesOnly (view_of (store_of old)) (view_of (store_of new))
           (λ image. StandsFor (state_of (store_of old)) image ⊎ StandsFor (settle (state_of (store_of old)) (held_of old ++ drop (length l) (got_of new))).state image)) got
           (subst (λ (l : List Request). IsTrue (view_of (store_of old)).keeps_model → is_down (store_of old) ≡ false → LeavesOnly (view_of (store_of old)) (view_of (store_of new))

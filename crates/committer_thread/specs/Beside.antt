@@ -9,8 +9,8 @@ use Rattle.group_commit.specs.Settling.{settle}
 use Rattle.request_lists.specs.declared.builds.Builds.TheVariants.{Beside}
 use Rattle.committer.specs.declared.committer.Committer.{Committer}
 use Rattle.committer.specs.Answers.{StaysPut}
-use Rattle.committer.specs.CommitterWords.{got_of, posts_of, store_of}
-use Rattle.committer.specs.Listed.{IsListedFrom, StaysListedSo}
+use Rattle.committer.specs.CommitterWords.{begun_of, got_of, posts_of, store_of}
+use Rattle.committer.specs.Listed.{StaysListedSo}
 use Rattle.service_actors.specs.declared.graphs.GenerationGraph.{GenerationGraph}
 use Rattle.service_actors.specs.declared.stop_cause.StopCause.{StopCause}
 use Rattle.service_actors.specs.declared.stop_cause.StopCause.TheVariants.{Device}
@@ -24,13 +24,6 @@ use Rattle.committer_thread.specs.Tables.{IsGraphOf}
 abbrev pub graph_of : Build → GenerationGraph
 graph_of build = arc_value build.thread.promise.of.value
 
--- What is being built may be posted: the store has reached its number, which is above the newest one, and where it is the store's count the
--- graph is the store's.
-pub record MayStand (state : State) (newest : Option ℕ) (of : GenerationGraph) : Type 0 where
-  pub reached : of.generation ≤ state.count
-  pub ahead : IfSome newest (λ n. n < of.generation)
-  pub same : of.generation ≡ state.count → of.graph ≡ state.graph
-
 -- From a state on, a beginning of these requests led to what is being built.
 pub record IsOnWay (first : State) (got : List Request) (newest : Option ℕ) (of : GenerationGraph) : Type 0 where
   pub at : ℕ
@@ -38,14 +31,11 @@ pub record IsOnWay (first : State) (got : List Request) (newest : Option ℕ) (o
   pub of_state : IsGraphOf (settle first (take at got)).state of
   pub ahead : IfSome newest (λ n. n < of.generation)
 
--- where a beginning of what a committer took from a state on led to a graph, and what it took is listed, it still is
-abbrev pub StaysListedWith : {D R : Type 0} {V : _} → GenerationGraph → Committer D R V → Committer D R V → Type 0
-StaysListedWith of old new = (first : State) (newest : Option ℕ) → IsOnWay first (got_of old) newest of → IsListedFrom Beside first old → IsListedFrom Beside first new
-
 -- From its beginning on a committer settled all that it took, its newest generation has this number, and what is being built is of a state that
 -- a beginning of it led to.
 pub record GoesBeside {D R : Type 0} {V : _} (first now : Committer D R V) (rebuilds : RebuildSchedule) : Type 0 where
   pub begun : got_of first ≡ []
+  pub from : begun_of now ≡ state_of (store_of first)
   pub on : IsOnCourse Beside first now
   pub shown : IsShown rebuilds.newest now
   pub reached : IfSome rebuilds.newest (λ n. n ≤ (state_of (store_of now)).count)

@@ -15,7 +15,7 @@ use Rattle.service_actors.specs.declared.stop_cause.StopCause.TheVariants.{Devic
 use Rattle.request_lists.specs.declared.builds.Builds.{Builds}
 use Rattle.request_lists.specs.Posted.{ArePosted}
 use Rattle.intake.specs.Turns.{AreOfEditors}
-use Rattle.committer.specs.CommitterWords.{store_of, held_of, taker_of, queue_of, got_of, posts_of, taken, settled}
+use Rattle.committer.specs.CommitterWords.{begun_of, store_of, held_of, taker_of, queue_of, got_of, posts_of, taken, settled}
 use Rattle.committer.specs.Answers.{StaysPut}
 use Rattle.committer.specs.Listed.{IsListedFrom, StaysListed, StaysListedSo}
 
@@ -44,6 +44,7 @@ pub record KeepsQueue {D R : Type 0} {V : _} (old new : Committer D R V) : Type 
 pub record HasTurned {D R : Type 0} {V : _} (old new : Committer D R V) : Type 0 where
   pub front : got_of new ≡ got_of old ++ taken old new
   pub same : IsSameDevice (view_of (store_of old)) (view_of (store_of new))
+  pub begun : begun_of new ≡ begun_of old
   pub any_moment : IsTrue (view_of (store_of old)).keeps_model → is_down (store_of old) ≡ false
       → LeavesOnly (view_of (store_of old)) (view_of (store_of new)) (λ image. StandsFor (state_of (store_of old)) image ⊎ StandsFor (settled old new).state image)
 

@@ -3,9 +3,9 @@ ghost use Rattle.std.specs.Arc.{arc_value};
 ghost use Rattle.std.specs.Prelude.{◌≡◌, ◌≢◌, [], IfErr, IfOk, IfSome, IsErrOf, IsTrue, None, OnOk, Some, false};
 ghost use Rattle.checkpoint.specs.StoreWords.{is_down, state_of};
 ghost use Rattle.request_lists.specs.declared.builds.Builds.TheVariants.{Beside};
-ghost use Rattle.committer.specs.CommitterWords.{held_of, posts_of, store_of};
-ghost use Rattle.committer.specs.Listed.{StaysListedSo};
-ghost use Rattle.committer_thread.specs.Beside.{DoesGoBeside, GoesBeside, GoesOnBeside, ListsBeside, MayStand, OnlyPosts, StaysListedWith, graph_of};
+ghost use Rattle.committer.specs.CommitterWords.{begun_of, got_of, held_of, posts_of, store_of};
+ghost use Rattle.committer.specs.Listed.{StaysListedBegun, StaysListedSo};
+ghost use Rattle.committer_thread.specs.Beside.{DoesGoBeside, GoesBeside, GoesOnBeside, IsOnWay, ListsBeside, OnlyPosts, graph_of};
 ghost use Rattle.committer_thread.specs.Kept.{HasLostDevice, HasSettledFrom, HasTurned, IsFresh, IsOnCourse, KeepsQueue, PostsAlong};
 ghost use Rattle.committer_thread.specs.Pace.{IsShown, IsUpToDate};
 ghost use Rattle.committer_thread.specs.Tables.{IsBuiltOf, IsGraphOf};
@@ -155,9 +155,9 @@ fn post<J: BoardName, D: Disk, A: Setting, R: Wait + Drop>(
     requires up { is_down (store_of committer.old) ≡ false }
     requires held { held_of committer.old ≡ [] }
     requires shown { IsShown newest committer.old }
-    requires stands { MayStand (state_of (store_of committer.old)) newest (graph_of build) }
+    requires way { IsOnWay (begun_of committer.old) (got_of committer.old) newest (graph_of build) }
     ensures only { OnlyPosts J.opening committer.old committer.new result }
-    ensures listed { StaysListedWith (graph_of build) committer.old committer.new }
+    ensures listed { StaysListedBegun committer.old committer.new }
     ensures number { IfOk result (λ number. number ≡ (graph_of build).generation) }
     ensures shown { IfOk result (λ number. IsShown (Some number) committer.new) }
 {

@@ -15,8 +15,8 @@ use requests::SESSIONS;
 use std::alloc::{AllocError, Global};
 use std::sync::Wait;
 
-/// The most readers that a board has.
-pub const MOST_READERS: usize = 128;
+/// The most readers that a board has: 64 editors, 64 forwarders, and one more.
+pub const MOST_READERS: usize = 129;
 
 struct Handover;
 

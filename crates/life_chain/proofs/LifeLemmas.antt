@@ -37,7 +37,7 @@ use Rattle.life_chain.specs.declared.life.Life.{Life}
 use Rattle.life_chain.specs.declared.report.LifeReport.{LifeReport}
 use Rattle.life_chain.specs.Groups.{nothing_given, given_by}
 use Rattle.life_chain.specs.Reports.{opened_of, taken_of, ended_with, life_of}
-use Rattle.life_chain.specs.Sound.{ServesOpened, IsSafe, IsSoundIn, AreEach, AreSound}
+use Rattle.life_chain.specs.Sound.{ServesOpened, IsSafe, IsSoundIn, AreEach}
 use Rattle.life_chain.specs.Lived.{IsLived, IsServed, IsAnswered, IsRefusedOpening, AreLived}
 use Rattle.life_chain.specs.Chains.{IsFirst, IsNextOf, AreChained, AreExactlyOnce, IsLastRefused}
 use Rattle.life_chain.specs.Laws.{GoOn, AreNext}
@@ -186,14 +186,6 @@ module _ {D : Type 0} (model : Ghosts D) (by_word : D → ℕ → D → Type 0) 
       → AreLived model by_word disk (lives ++ life ∷ rest) reports (Some refused) left
   up_to disk mid left lives reports life rest refused so why =
       subst (λ (l : List LifeReport). AreLived model by_word disk (lives ++ life ∷ rest) l (Some refused) left) (append-nil reports) (are_one (IsLived model by_word) (IsRefusedOpening model) disk mid left lives (life ∷ rest) reports [] (Some refused) so why)
-
-  -- each is sound
-  pub are_sound : (disk left : D) (lives : List Life) (reports : List LifeReport) (refused : Option OpenRefused) → AreLived model by_word disk lives reports refused left → AreSound model by_word disk lives reports refused left
-  are_sound disk left [] [] None so = so
-  are_sound disk left (x ∷ xs) [] (Some refused) so = so.not_opened
-  are_sound disk left (x ∷ xs) (r ∷ rs) refused so =
-      (so.0, (record { started = so.1.0.started; worlds = so.1.0.worlds; stopped = so.1.0.stopped; sound = so.1.0.sound }, are_sound so.0 left xs rs refused so.1.1))
-  are_sound disk left xs rs refused so = absurd so
 
   -- the first of them opened to what the first content stands for
   pub first_opened : (disk left : D) (lives : List Life) (reports : List LifeReport) (refused : Option OpenRefused) → AreLived model by_word disk lives reports refused left → IsFirst reports (model.view disk).content

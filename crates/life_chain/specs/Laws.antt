@@ -4,7 +4,7 @@ use Rattle.disk_trait.specs.declared.disk.Disk.{Ghosts}
 use Rattle.layout_reader.specs.declared.refusals.OpenRefused.{OpenRefused}
 use Rattle.life_chain.specs.declared.life.Life.{Life}
 use Rattle.life_chain.specs.declared.report.LifeReport.{LifeReport}
-use Rattle.life_chain.specs.Sound.{AreEach, IsNotOpened, IsSound}
+use Rattle.life_chain.specs.Sound.{AreEach}
 use Rattle.life_chain.specs.Lived.{AreLived, IsLived, IsRefusedOpening}
 use Rattle.life_chain.specs.Chains.{AreChained, AreExactlyOnce}
 
@@ -13,9 +13,9 @@ abbrev pub GoOn : {D : Type 0} → (D → Life → LifeReport → D → Type 0) 
 GoOn {D} Is Refused = (disk mid left : D) (lives more : List Life) (reports others : List LifeReport) (refused : Option OpenRefused)
     → AreEach Is Refused disk lives reports None mid → AreEach Is Refused mid more others refused left → AreEach Is Refused disk (lives ++ more) (reports ++ others) refused left
 
--- two calls are one: of sound lives, and with all that was answered in them
+-- two calls are one
 abbrev pub AreOne : {D : Type 0} → Ghosts D → (D → ℕ → D → Type 0) → Type 0
-AreOne model by_word = GoOn (IsSound model by_word) (IsNotOpened model) × GoOn (IsLived model by_word) (IsRefusedOpening model)
+AreOne model by_word = GoOn (IsLived model by_word) (IsRefusedOpening model)
 
 -- what is said of lives follows from that they are lives: each next one is one of the life before, and each ticket is in at most once
 abbrev pub AreNext : {D : Type 0} → Ghosts D → (D → ℕ → D → Type 0) → Type 0

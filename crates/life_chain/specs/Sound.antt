@@ -25,7 +25,6 @@ use Rattle.interleave.specs.Crashes.{HoldsSince}
 use Rattle.life_chain.specs.declared.life.Life.{Life}
 use Rattle.life_chain.specs.declared.report.LifeReport.{LifeReport}
 use Rattle.life_chain.specs.Groups.{nothing_given, given_by, groups_given}
-use Rattle.life_chain.specs.Reports.{opened_of}
 
 -- ---- packets
 
@@ -82,13 +81,6 @@ pub record IsSoundIn {D : Type 0} (model : Ghosts D) (by_word : D → ℕ → D 
   pub serves : ServesOpened first report.rebuilt (machine_of started)
   pub routed_well : AreRoutedWell first (machine_of stopped)
 
--- it ran in some worlds
-pub record IsSound {D : Type 0} (model : Ghosts D) (by_word : D → ℕ → D → Type 0) (disk : D) (life : Life) (report : LifeReport) (left : D) : Type 0 where
-  pub started : World D model
-  pub worlds : List (World D model)
-  pub stopped : World D model
-  pub sound : IsSoundIn model by_word disk (opened_of report) life report started worlds stopped left
-
 -- A life couldn't open a disk that was handed over, and only read it.
 pub record IsNotOpened {D : Type 0} (model : Ghosts D) (disk : D) (refused : OpenRefused) (left : D) : Type 0 where
   pub read : OnlyRead (model.view disk) (model.view left)
@@ -107,7 +99,3 @@ AreEach Is Refused disk (life ∷ lives) [] (Some refused) left = Refused disk r
 AreEach {D = D} Is Refused disk (life ∷ lives) (report ∷ reports) refused left =
     (next : D) × (Is disk life report next × AreEach Is Refused next lives reports refused left)
 AreEach Is Refused disk lives reports refused left = ⊥
-
--- each of them is sound
-abbrev pub AreSound : {D : Type 0} → (model : Ghosts D) → (D → ℕ → D → Type 0) → D → List Life → List LifeReport → Option OpenRefused → D → Type 0
-AreSound model by_word = AreEach (IsSound model by_word) (IsNotOpened model)

@@ -5,17 +5,12 @@ use Rattle.layout_2.specs.State.{State}
 use Rattle.layout_2.specs.Standing.{StandsFor}
 use Rattle.life_chain.specs.declared.life.Life.{Life}
 use Rattle.life_chain.specs.declared.report.LivesReport.{LivesReport}
-use Rattle.life_chain.specs.Sound.{AreSound}
 use Rattle.life_chain.specs.Lived.{AreLived}
 use Rattle.life_chain.specs.Chains.{IsFirst, AreChained, AreExactlyOnce, IsLastRefused}
 
 -- the disk keeps the model
 abbrev pub KeepsModel : {D : Type 0} → Ghosts D → D → Type 0
 KeepsModel model disk = IsTrue (model.view disk).keeps_model
-
--- each report is that of its life, up to the disk that is left
-abbrev pub ReportsEach : {D : Type 0} → Ghosts D → (D → ℕ → D → Type 0) → D → List Life → LivesReport → D → Type 0
-ReportsEach model by_word disk lives report left = AreLived model by_word disk lives report.lives.items report.refused left
 
 -- What the report tells of lives of a disk that keeps the model, up to the disk that is left.
 pub record AreTold {D : Type 0} (model : Ghosts D) (by_word : D → ℕ → D → Type 0)
@@ -28,5 +23,5 @@ pub record AreTold {D : Type 0} (model : Ghosts D) (by_word : D → ℕ → D �
   pub exactly_once : AreExactlyOnce report.lives.items
   -- where the disk stood for anything, only the device or memory refuses an opening
   pub refused : (state : State) → StandsFor state (model.view disk).content → IsLastRefused report.refused
-  -- each life is sound, on the very disk that the crash of the one before had left: safe at any moment, and its packets arrive
-  pub sound : AreSound model by_word disk lives report.lives.items report.refused left
+  -- each life ran as its report says, on the very disk that the crash of the one before had left: safe at any moment, and its packets arrive
+  pub lived : AreLived model by_word disk lives report.lives.items report.refused left

@@ -2,7 +2,8 @@
 ghost use Rattle.std.specs.Prelude.{◌≡◌, ◌≤◌, [], length, vec_capacity, IfOk, OnErr};
 ghost use Rattle.life_chain.specs.Rooms.{HaveRooms};
 ghost use Rattle.life_chain.specs.Words.{IsLeftByWord, any_word};
-ghost use Rattle.life_chain.specs.Telling.{KeepsModel, ReportsEach, AreTold};
+ghost use Rattle.life_chain.specs.Lived.{AreLived};
+ghost use Rattle.life_chain.specs.Telling.{KeepsModel, AreTold};
 
 use crate::crash::{Crash, ImageOfWord, SomeImage};
 use crate::life::Life;
@@ -25,9 +26,7 @@ use std::alloc::{AllocError, Global};
 ///   all that it told an editor was accepted (`chained`);
 /// - over all these lives each session's ticket is in at most once, and exactly once where an editor was told (`exactly_once`);
 /// - a life that couldn't open had no memory or a device that failed, where the disk stood for anything at first (`refused`);
-/// - each life is sound (`sound`, in words at [`lives_on`]).
-///
-/// The clause `answered` says of the same lives what the rebuild and each event was answered (`AreLived`, specs/Lived.antt).
+/// - each life ran as its report says (`lived`, in words at [`lives_on`]).
 pub fn lives<D: CrashDisk + Drop>(
     alloc: Global,
     disk: D,
@@ -35,9 +34,6 @@ pub fn lives<D: CrashDisk + Drop>(
 ) -> Result<LivesReport, AllocError>
     ensures told { IfOk result (λ report. (left : D) × (KeepsModel D.Disk disk
         → AreTold D.Disk any_word disk lives.now report left)) }
-
-    ensures answered { IfOk result (λ report. (left : D) × (KeepsModel D.Disk disk
-        → ReportsEach D.Disk any_word disk lives.now report left)) }
 {
     lives_on(alloc, disk, lives).0
 }
@@ -45,10 +41,10 @@ pub fn lives<D: CrashDisk + Drop>(
 /// The same lives, and the disk comes back: as the crash of the last life left it, or only read by an opening that was refused, or, where
 /// there was no room for the replies, as it was handed over. So more lives may go on where these ended ([`crate::lives_law`]).
 ///
-/// On a disk that keeps the model each life is sound (`AreSound`, specs/Sound.antt): what it opened to, what a crash would have left at any
-/// moment since the disk was handed over to it, and which ways its packets went. Each next life was handed the very disk that the crash of
-/// the one before had left. A life that couldn't open only read the disk, which failed in the opening if the device is told. And each report is that of
-/// its life (`AreLived`): what the rebuild and the events were answered, and what its world stored; a refusal tells of the content's front.
+/// On a disk that keeps the model each report is that of its life (`AreLived`, specs/Lived.antt): what it opened to, what the rebuild and the
+/// events were answered, and what its world stored; what a crash would have left at any moment since the disk was handed over to it, and
+/// which ways its packets went. Each next life was handed the very disk that the crash of the one before had left. A life that couldn't open
+/// only read the disk, which failed in the opening if the device is told; the refusal tells of the content's front.
 pub fn lives_on<D: CrashDisk + Drop>(
     alloc: Global,
     disk: D,
@@ -56,9 +52,6 @@ pub fn lives_on<D: CrashDisk + Drop>(
 ) -> (Result<LivesReport, AllocError>, D)
     ensures told { KeepsModel D.Disk disk
         → IfOk result.0 (λ report. AreTold D.Disk any_word disk lives.now report result.1) }
-
-    ensures answered { KeepsModel D.Disk disk
-        → IfOk result.0 (λ report. ReportsEach D.Disk any_word disk lives.now report result.1) }
 
     ensures no_memory { OnErr result.0 (result.1 ≡ disk) }
 {
@@ -74,8 +67,6 @@ pub fn lives_in_memory(
 ) -> (Result<LivesReport, AllocError>, MemDisk)
     ensures told { IfOk result.0 (λ report. AreTold ⟦<MemDisk as Disk>⟧ IsLeftByWord disk lives.now report result.1) }
 
-    ensures answered { IfOk result.0 (λ report. ReportsEach ⟦<MemDisk as Disk>⟧ IsLeftByWord disk lives.now report result.1) }
-
     ensures no_memory { OnErr result.0 (result.1 ≡ disk) }
 {
     lives_by::<MemDisk, ImageOfWord>(alloc, disk, lives)
@@ -89,9 +80,6 @@ fn lives_by<D: CrashDisk + Drop, C: Crash<D>>(
 ) -> (Result<LivesReport, AllocError>, D)
     ensures told { KeepsModel D.Disk disk
         → IfOk result.0 (λ report. AreTold D.Disk C.by_word disk lives.now report result.1) }
-
-    ensures answered { KeepsModel D.Disk disk
-        → IfOk result.0 (λ report. ReportsEach D.Disk C.by_word disk lives.now report result.1) }
 
     ensures no_memory { OnErr result.0 (result.1 ≡ disk) }
 {
@@ -120,7 +108,8 @@ fn lives_in<D: CrashDisk + Drop, C: Crash<D>>(
     requires none { reports.items ≡ [] }
     requires spare { length lives.now ≤ vec_capacity reports }
 
-    ensures { KeepsModel D.Disk disk → ReportsEach D.Disk C.by_word disk lives.now result.0 result.1 }
+    ensures { KeepsModel D.Disk disk
+        → AreLived D.Disk C.by_word disk lives.now result.0.lives.items result.0.refused result.1 }
 {
     let mut rooms = rooms;
     let mut reports = reports;

@@ -12,17 +12,18 @@
 //! | `chained` | each next life opens to a prefix state of the one before (`IsNextOf`, specs/Chains.antt): whole changes and whole groups, those that events and replies tell of |
 //! | `exactly_once` | over these lives, and each beginning of them, each session's ticket is in at most once, only above the first disk's last one, and exactly once where it is acknowledged; each life opens to the last tickets of what is in (`IsExactlyOnce` of `event_laws`) |
 //! | `refused` | where the disk stands for anything, an opening is refused by `Device` or `Memory` alone |
-//! | `sound` | each life is sound (`IsSound`, specs/Sound.antt), on the very disk that the crash of the one before had left, up to the first life that couldn't open, which only read it |
+//! | `lived` | each life ran as its report says (`IsLived`, specs/Lived.antt), on the very disk that the crash of the one before had left, up to the first life that couldn't open, which only read it |
 //!
-//! A sound life opened to what its disk stood for, and until its events began it only read it. A crash since the disk was handed over, in the opening or behind it,
-//! or since any event, leaves a prefix state with all that commits had answered Ok for by then, all that was acknowledged by then, and none in part of the groups
-//! that events and replies say were given to commits (specs/Groups.antt). Its tables serve the network, and each packet goes over the one trip of its own
-//! generation, at most three times as long as any other.
+//! A life ran: the rebuild and each event were answered by the call that they stand for (`IsAnswered`). There is a world after each event, where a commit was
+//! answered by a desk over its disk (`WorldRun` of `interleave`), and what the report says of requests, postings and ways is what the last of these worlds stored.
 //!
-//! The clause `answered` says the rest of the same lives (`AreLived`, specs/Lived.antt): what the rebuild and each event were answered, each by the call that it
-//! stands for, and that there is a world after each event, where a commit was answered by a desk over its disk (`WorldRun` of `interleave`); a refused opening tells
-//! of the content's front. The clause `no_memory` says of any disk: where there was no room for the replies, no life ran, and the disk is the one that was handed
-//! over.
+//! And it is sound in these worlds (`IsSoundIn`, specs/Sound.antt): it opened to what its disk stood for, and until its events began it only read it. A crash since
+//! the disk was handed over, in the opening or behind it, or since any event, leaves a prefix state with all that commits had answered Ok for by then, all that was
+//! acknowledged by then, and none in part of the groups that events and replies say were given to commits (specs/Groups.antt). Its tables serve the network, and
+//! each packet goes over the one trip of its own generation, at most three times as long as any other.
+//!
+//! A refused opening tells of the content's front. The clause `no_memory` says of any disk: where there was no room for the replies, no life ran, and the disk is
+//! the one that was handed over.
 //!
 //! [`lives`] drops the disk at the end. [`lives_on`] gives it back at every exit, so more lives may go on where these ended: two calls are one ([`lives_law`]). On a
 //! disk in memory, [`lives_in_memory`] says besides which image each crash left: that of the life's word.

@@ -3,5 +3,4 @@ pub mod Noting
 pub mod ServedList
 pub mod Runs
 pub mod Services
-pub mod Seated
 pub mod Taken

@@ -10,9 +10,9 @@ ghost use Rattle.request_lists.specs.declared.builds.Builds.{Builds};
 ghost use Rattle.request_lists.specs.Posted.{ArePosted};
 ghost use Rattle.committer.specs.CommitterWords.{got_of, posts_of, queue_of, store_of, taker_of};
 ghost use Rattle.committer.specs.Listed.{IsListedFrom, StaysListedSo};
+ghost use Rattle.committer_thread.specs.Config.{IsServiceConfig};
 ghost use Rattle.committer_thread.specs.Kept.{HasLostDevice, HasSettledFrom, IsFresh, IsOnCourse, KeepsQueue, PostsAlong};
 ghost use Rattle.committer_thread.specs.Pace.{IsBegun, IsShown, IsUpToDate};
-ghost use Rattle.live_service.specs.Seated.{IsSeated};
 ghost use Rattle.live_service.specs.ServedList.{EndsServed, builds_of};
 ghost use Rattle.line_workers.specs.Submits.{AreAllEditors, ComesBack, HasNoted};
 ghost use Rattle.live_service.specs.Noting.{AreJoined};
@@ -515,7 +515,7 @@ fn seat_all<B: BoardName, P: Drop>(
     readers: Vec<BoardReader>,
     starts: &[u64; SESSIONS],
 ) -> Result<(Taker, Actors<B, P>), AllocError>
-    requires config { IsSeated config }
+    requires config { IsServiceConfig config }
     requires some { 0 < vec_len readers }
     requires readers { All (λ r. r.all.opening ≡ B.opening) readers.items }
     requires begins { starts.now ≡ B.opening.starts }

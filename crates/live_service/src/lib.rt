@@ -56,4 +56,4 @@ pub use line_exchange::{AnswerWriter, Served, WatchedOutput};
 pub use opened::{EngineConfig, Env, LiveInput, Opened, Places, ServedDevice, Surroundings};
 pub use opening::open_device;
 pub use serve::serve_live;
-pub use serving::{seated, serve_opened, take_back};
+pub use serving::{serve_opened, take_back};

@@ -1,7 +1,7 @@
 // A device that was opened, and what a service on it is started with.
 ghost use Rattle.std.specs.Prelude.{◌≡◌, false};
 ghost use Rattle.checkpoint.specs.StoreWords.{is_down, state_of};
-ghost use Rattle.live_service.specs.Seated.{IsSeated};
+ghost use Rattle.committer_thread.specs.Config.{IsServiceConfig};
 ghost use Rattle.live_service.specs.ServedList.{IsBoardOf};
 
 use crate::around::{Around, Kinds};
@@ -93,7 +93,7 @@ pub struct Opened<D: Disk, P> {
     pub store: Store<D>,
     pub source: WordSource,
     pub places: P,
-    ghost seated: { IsSeated config.service },
+    ghost numbers: { IsServiceConfig config.service },
     ghost up: { is_down store ≡ false },
 }
 

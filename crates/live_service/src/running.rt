@@ -3,13 +3,13 @@ ghost use Rattle.std.specs.Prelude.{◌≡◌, ◌≢◌, IfErr, IfOk, IfSome, I
 ghost use Rattle.checkpoint.specs.StoreWords.{is_down, state_of, view_of};
 ghost use Rattle.command_output.specs.declared.fault.Fault.{Fault};
 ghost use Rattle.generations.specs.Beginnings.{GoesOn};
+ghost use Rattle.committer_thread.specs.Config.{IsServiceConfig};
 ghost use Rattle.committer_thread.specs.Kept.{HasSettledSome};
 ghost use Rattle.live_service.specs.ServeEnds.{IsLater, told_fault};
 ghost use Rattle.line_exchange.specs.declared.served.Served.{Served};
 ghost use Rattle.line_exchange.specs.Ends.{fault_of};
 ghost use Rattle.line_exchange.specs.Reads.{IsReadEnd};
 ghost use Rattle.live_service.specs.Runs.{HasRun, IsFaultOf, IsPrintEnd, console_use};
-ghost use Rattle.live_service.specs.Seated.{IsSeated};
 ghost use Rattle.live_service.specs.Noting.{AreSamePuts};
 ghost use Rattle.live_service.specs.ServedList.{EndsServed, IsBoardOf, builds_of};
 
@@ -221,7 +221,7 @@ where
     } = opened;
     let Places { tables, devices } = places;
     let job = move || -> (Result<Ending, StopCause>, A::Device)
-        requires config { IsSeated config.service }
+        requires config { IsServiceConfig config.service }
         requires builds { config.builds ≡ builds_of J.input }
         requires board { IsBoardOf B.opening (state_of store) writer readers.items }
         requires up { is_down store ≡ false }

@@ -15,7 +15,7 @@ ghost use Rattle.live_service.specs.Services.{AnswersInput, lent};
 use crate::around::Around;
 use crate::opened::{EngineConfig, Env, LiveInput, Opened, PlacesOf, ServedDevice, Surroundings};
 use crate::opening::open_device;
-use crate::serving::{seated, serve_opened, take_back};
+use crate::serving::{serve_opened, take_back};
 use checkpoint::standing_law;
 use command_output::FaultWriter;
 use line_exchange::{AnswerWriter, InputSource, Served, Stream, Terminal, told};
@@ -71,7 +71,7 @@ where
 /// wait, or `rounds` rounds after the first such edit at the latest. Each is built in a thread of its own, one at a time, so that no edit
 /// waits for it, and no `resume`. What asks for a way, an address, a packet, tables or how the service stands waits until the first one
 /// is there. An edit goes to its session's editor; the k-th of the other lines but `state`, `wait`, `backup` and `metrics`, from 0, to
-/// the forwarder `k` modulo their number. With the most editors there is one forwarder less than asked for, where that was the most too.
+/// the forwarder `k` modulo their number.
 ///
 /// What ends the service before the input's end is told on `err`, once all answers before the first line without one are printed.
 /// [`Served::Printed`]: the input came to its end, and all its lines are answered. What was accepted stays on the device, which comes
@@ -123,7 +123,7 @@ where
     };
     let opened = Opened {
         config: EngineConfig {
-            service: seated(config),
+            service: config,
             rounds,
             builds: Builds::Beside,
         },

@@ -1,9 +1,8 @@
 // The service of an opened device, whatever its lines come from and whoever prints the answers.
-ghost use Rattle.std.specs.Prelude.{◌≡◌, IfOk};
+ghost use Rattle.std.specs.Prelude.{◌≡◌, ◌+◌, IfOk, vec_len};
 ghost use Rattle.checkpoint.specs.StoreWords.{state_of};
 ghost use Rattle.committer_thread.specs.Config.{IsServiceConfig};
 ghost use Rattle.live_service.specs.Runs.{HasRun, console_use};
-ghost use Rattle.live_service.specs.Seated.{IsSeated};
 ghost use Rattle.live_service.specs.ServedList.{IsBoardOf, builds_of};
 
 use crate::around::Around;
@@ -12,9 +11,8 @@ use crate::opened::{EngineConfig, EngineParts, Env, Opened, PlacesOf};
 use crate::running::run_threads;
 use checkpoint::Store;
 use command_output::Fault;
-use committer_thread::ServiceConfig;
 use disk_trait::Disk;
-use generations::{BoardReader, BoardWriter, MOST_READERS, board};
+use generations::{BoardReader, BoardWriter, board};
 use line_exchange::{Console, LineQueues, LineSource, Served, Stream};
 use new_devices::NewDevices;
 use packet_ways::BoardName;
@@ -28,21 +26,6 @@ pub fn take_back<T>(x: &mut T)
     ensures { x.new ≡ x.old }
 {}
 
-/// The numbers of a service at whose board one reader is for tables.
-pub fn seated(config: ServiceConfig) -> ServiceConfig
-    requires { IsServiceConfig config }
-    ensures seated { IsSeated result }
-    ensures editors { result.editors ≡ config.editors }
-{
-    let most = MOST_READERS - 1 - config.editors as usize;
-    let forwarders = config.forwarders.min(most as u8);
-    ServiceConfig {
-        editors: config.editors,
-        forwarders,
-        places: config.places,
-    }
-}
-
 // A board for a store, to which nothing was posted, with readers for all editors and forwarders and one for tables.
 fn board_of<'a, D: Disk, R: Wait>(
     rt: &'a R,
@@ -50,8 +33,11 @@ fn board_of<'a, D: Disk, R: Wait>(
     config: &EngineConfig,
     store: &Store<D>,
 ) -> Result<(BoardWriter<&'a R>, Vec<BoardReader>), AllocError>
-    requires { IsSeated config.now.service }
-    ensures { IfOk result (λ r. IsBoardOf r.0.opening (state_of store.now) r.0 r.1.items) }
+    requires { IsServiceConfig config.now.service }
+    ensures board { IfOk result (λ r. IsBoardOf r.0.opening (state_of store.now) r.0 r.1.items) }
+    // As many forwarders are seated as were asked for.
+    ensures seats { IfOk result (λ r.
+        vec_len r.1 ≡ config.now.service.editors + config.now.service.forwarders + 1) }
 {
     let config = &config.service;
     let readers = config.editors as usize + config.forwarders as usize + 1;

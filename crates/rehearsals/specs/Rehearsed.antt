@@ -6,7 +6,7 @@ use Rattle.layout_2.specs.State.{first_state}
 use Rattle.layout_2.specs.Standing.{StandsFor}
 use Rattle.life_chain.specs.declared.life.Life.{Life}
 use Rattle.life_chain.specs.declared.report.LivesReport.{LivesReport}
-use Rattle.life_chain.specs.Telling.{AreTold, ReportsEach}
+use Rattle.life_chain.specs.Telling.{AreTold}
 use Rattle.life_chain.specs.Words.{IsLeftByWord}
 use Rattle.rehearsals.specs.declared.asked.Rehearsal.{Rehearsal}
 use Rattle.rehearsals.specs.Reports.{report_text}
@@ -21,7 +21,6 @@ pub record IsReported {D : Type 0} (model : Ghosts D) (by_word : D → ℕ → D
   pub formatted : StandsFor (first_state nodes) (model.view disk).content
   -- all that is promised of such lives holds of it
   pub told : AreTold model by_word disk lives report left
-  pub answered : ReportsEach model by_word disk lives report left
 
 -- The text is that of the report of a rehearsal's lives, of a device in memory.
 pub record IsRehearsed (model : Ghosts MemDisk) (rehearsal : Rehearsal) (text : List ℕ) : Type 0 where

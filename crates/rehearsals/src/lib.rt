@@ -6,19 +6,9 @@
 //!
 //! # The contract
 //!
-//! The text that [`rehearse`] answers is the text of a report (`report_text`, specs/Reports.antt), and that report is of the lives that it was
-//! given, of a device in memory that was formatted for so many nodes (`IsRehearsed` and `IsReported`, specs/Rehearsed.antt). All that
-//! `lives_in_memory` tells of its report stands in `IsReported`, so it holds of what is printed:
-//!
-//! - each life is of the very disk that the crash of the life before left, by the crash's word, and each reply is the answer of its event,
-//!   in the order of the events (`AreLived`);
-//! - each opening finds a prefix of what the life before had taken, with all that its commits had answered Ok for, and all that an
-//!   editor was told is accepted (`AreChained`);
-//! - over all lives each ticket of a session is in at most once, and exactly once where an editor was told (`AreExactlyOnce`).
-//!
-//! No text is answered where memory runs out, or where a device can't have so many nodes; the latter comes only then (`nodes`).
-//!
-//! `docs/FORMATS.md`, "A rehearsal", has each line. Its bytes are defined once, in specs/Reports.antt.
+//! The text that [`rehearse`] answers is that of a report of the lives that it was given, of a device in memory that was formatted for so many nodes
+//! (`IsRehearsed`), and all that `lives_in_memory` tells of its report holds of it (`IsReported`). No text is answered where memory runs out, or where a
+//! device can't have so many nodes; the latter comes only then (`nodes`). `docs/FORMATS.md`, "A rehearsal", has each line.
 #![tactic(auto)]
 
 mod asked;

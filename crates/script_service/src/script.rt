@@ -19,8 +19,7 @@ use command_output::{Fault, FaultWriter};
 use disk_trait::Disk;
 use line_exchange::{AnswerWriter, Gatherer, ScriptSource, Served, Stream};
 use live_service::{
-    EngineConfig, Env, Kinds, Opened, Places, ServedDevice, open_device, seated, serve_opened,
-    take_back,
+    EngineConfig, Env, Kinds, Opened, Places, ServedDevice, open_device, serve_opened, take_back,
 };
 use new_devices::NoDevices;
 use put_lines::BlankBook;
@@ -177,7 +176,7 @@ where
     };
     let opened = Opened {
         config: EngineConfig {
-            service: seated(config),
+            service: config,
             rounds: 1,
             builds: Builds::InTurn,
         },

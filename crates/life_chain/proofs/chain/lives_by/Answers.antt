@@ -1,5 +1,5 @@
 use Rattle.life_chain.specs.Lived.{AreLived}
-use Rattle.life_chain.proofs.LifeLemmas.{are_sound, first_opened, last_refused, are_chained, exactly_once}
+use Rattle.life_chain.proofs.LifeLemmas.{first_opened, last_refused, are_chained, exactly_once}
 use Rattle.life_chain.proofs.chain.lives_by.Goals as goal
 
 pub returns-in-Ok-clause-told : goal.returns-in-Ok-clause-told
@@ -15,5 +15,5 @@ returns-in-Ok-clause-told g c model =
       chained = are_chained g.D.Disk g.C.Crash.by_word c.standing_law.ensures disk left ls reports refused so;
       exactly_once = exactly_once g.D.Disk g.C.Crash.by_word c.tickets_law.ensures.life c.exactly_once_laws.ensures.exactly_once c.standing_law.ensures disk left ls reports refused so;
       refused = last_refused g.D.Disk g.C.Crash.by_word disk left ls reports refused so;
-      sound = are_sound g.D.Disk g.C.Crash.by_word disk left ls reports refused so;
+      lived = so;
     }

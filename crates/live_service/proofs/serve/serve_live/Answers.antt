@@ -1,11 +1,10 @@
-use Rattle.std.proofs.Common.{ℕ, refl, sym, subst, Some}
+use Rattle.std.proofs.Common.{refl, sym, subst, Some}
 use Rattle.std.specs.Prelude.{IfSome}
 use Rattle.live_service.specs.ServeEnds.{IsServeEnd}
 use Rattle.live_service.proofs.Telling.{refused_end}
 use Rattle.line_exchange.specs.Ends.{fault_of}
 use Rattle.live_lines.specs.Answers.{answer_text}
 use Rattle.line_exchange.specs.Inputs.{Bytes}
-use Rattle.live_service.specs.Services.{AnswersInput, lent}
 use Rattle.live_service.proofs.Ended.{engine_ends, none_to, not_printed}
 use Rattle.live_service.proofs.OneListed.{answered, opened_left, read_left}
 use Rattle.live_service.proofs.serve.serve_live.Goals as goal
@@ -40,8 +39,6 @@ pub returns-clause-one_list : goal.returns-clause-one_list
 returns-clause-one_list g c is =
     let store = c.in-Ok.opened.0 in
     let back = c.serve_stream.result.1 in
-    let input = Bytes (g.S.Read.remaining c.args.input.lines) in
     let old = g.O.AnswerWriter.contents c.args.out.now in
     let new = g.O.AnswerWriter.contents c.serve_stream.new.out in
-    subst (λ (n : ℕ). AnswersInput (lent g.A.Device.Disk c.args.device.disk back) input n old new) c.seated.ensures.editors
-    (answered answer_text c.args.device.disk _ store old new back c.in-Ok.ensures.opened (c.serve_stream.ensures.one_list is))
+    answered answer_text c.args.device.disk _ store old new back c.in-Ok.ensures.opened (c.serve_stream.ensures.one_list is)

@@ -5,7 +5,6 @@ use Rattle.live_service.proofs.Telling.{refused_end, start_other}
 use Rattle.line_exchange.specs.Ends.{fault_of}
 use Rattle.live_lines.specs.Answers.{script_text}
 use Rattle.line_exchange.specs.Gathers.{BreaksOff}
-use Rattle.live_service.specs.Services.{AnswersScript, lent}
 use Rattle.live_service.proofs.Ended.{engine_ends, err_of, ok_of}
 use Rattle.live_service.proofs.OneListed.{answered, opened_left, read_left}
 use Rattle.script_service.proofs.script.serve_lines.Goals as goal
@@ -47,5 +46,4 @@ returns-clause-one_list g c =
     let old = g.O.AnswerWriter.contents c.args.out.now in
     let new = g.O.AnswerWriter.contents c.serve_script-served.new.out in
     ok_of c.result_of.result (c.serve_script-served.result.0) _ c.result_of.ensures.printed
-    (λ is. subst (λ (n : ℕ). AnswersScript (lent g.D.Disk c.args.device.disk back) c.args.script.items n old new) c.seated.ensures.editors
-    (answered script_text c.args.device.disk _ store old new back c.in-Ok.ensures.opened (c.serve_script-served.ensures.one_list is)))
+    (λ is. answered script_text c.args.device.disk _ store old new back c.in-Ok.ensures.opened (c.serve_script-served.ensures.one_list is))

@@ -12,6 +12,7 @@ use Rattle.committer.proofs.Logs.{same_starts, marks_lawful, told_marks, down_la
 use Rattle.committer.proofs.Crashing.{moved, kept_model, up_leaves, down_leaves}
 use Rattle.committer.proofs.Listings.{relisted, failed_listed}
 use Rattle.committer.proofs.GivenOut.{given_listed, given_out}
+use Rattle.committer.proofs.Leading.{led_settled, led_still}
 use Rattle.committer.proofs.committer.Committer.commit.Goals as goal
 
 pub tell-requires-clause-lawful : goal.tell-requires-clause-lawful
@@ -33,6 +34,7 @@ invariant_of-self g c =
       same_starts = same_starts _ old.outbox c.tell.new.self (notice_of c.in-Some.marks) c.tell.result old.same_starts c.tell.ensures;
       tied = told_marks old.outbox c.tell.new.self (notice_of c.in-Some.marks) c.tell.result (settle s rs).marks (length (settle s rs).accepted) (settle s rs).state _ _ _ _ _ _ _ _ old.tied c.requires.up c.requires.nothing_due out.said (settles s rs) c.tell.ensures
           out.held out.state out.up;
+      led = led_settled _ rs (desk_held c.paid.new.self) old.taker.got s (state_of (desk_store c.paid.new.self)) old.led out.held out.state;
       whole = up_leaves (desk_store c.paid.new.self) (desk_held c.paid.new.self) out.up;
     }
 
@@ -52,6 +54,7 @@ invariant_of-self-in-Err-Device g c =
       same_starts = same_starts _ old.outbox c.tell-posted.new.self (notice_of c.in-Some-paid.down) c.tell-posted.result old.same_starts c.tell-posted.ensures;
       tied = told_down old.outbox c.tell-posted.new.self (notice_of c.in-Some-paid.down) c.tell-posted.result _ _ _ _ _ _ _ _ old.tied c.requires.up c.requires.nothing_due said c.tell-posted.ensures
           still same (ap is_down c.paid-in-Err-Device.ensures.store ∙ c.in-Err-Device.ensures.refused.lost (ap Err c.in-Err-Device.field-0-is));
+      led = led_still _ (desk_held old.desk) (desk_held c.paid-in-Err-Device.new.self) old.taker.got (state_of (desk_store old.desk)) (state_of (desk_store c.paid-in-Err-Device.new.self)) old.led still same;
       whole = λ model. down_leaves (desk_store old.desk) (desk_store c.paid-in-Err-Device.new.self) (desk_held old.desk) (desk_held c.paid-in-Err-Device.new.self) same still
           (moved (desk_store old.desk) (desk_store c.commit.new.self) (desk_store c.paid-in-Err-Device.new.self) _ c.paid-in-Err-Device.ensures.store (c.commit.ensures.any_moment (kept_model (desk_store old.desk) (desk_store c.commit.new.self) (desk_store c.paid-in-Err-Device.new.self) c.commit.ensures.ran c.paid-in-Err-Device.ensures.store model) c.requires.up));
     }
@@ -76,6 +79,7 @@ pub returns-then-tell-clause-goes_on : goal.returns-then-tell-clause-goes_on
 returns-then-tell-clause-goes_on g c = record {
   nodes = search rules;
   ran = search rules;
+  begun = refl;
   listed =
       let old = c.args.self.now in
       let out = given_out old.desk c.commit.new.self c.paid.new.self _ c.in-Some.marks c.in-Ok.ensures.ok (c.in-Ok.ensures.refused.stays_up c.requires.up (λ e. cc)) c.paid.ensures.store c.paid.ensures.held c.in-Some.ensures.given in
@@ -97,6 +101,7 @@ pub returns-else-tell-clause-goes_on : goal.returns-else-tell-clause-goes_on
 returns-else-tell-clause-goes_on g c = record {
   nodes = search rules;
   ran = search rules;
+  begun = refl;
   listed =
       let old = c.args.self.now in
       let out = given_out old.desk c.commit.new.self c.paid.new.self _ c.in-Some.marks c.in-Ok.ensures.ok (c.in-Ok.ensures.refused.stays_up c.requires.up (λ e. cc)) c.paid.ensures.store c.paid.ensures.held c.in-Some.ensures.given in
@@ -123,6 +128,7 @@ pub returns-in-Some-paid-clause-goes_on : goal.returns-in-Some-paid-clause-goes_
 returns-in-Some-paid-clause-goes_on g c = record {
   nodes = search rules;
   ran = search rules;
+  begun = refl;
   listed = λ builds first is.
       let old = c.args.self.now in
       let said = down_said _ c.in-Some-paid.down c.in-Some-paid.ensures.given (c.in-Err-Device.ensures.refused.down_due (ap Err c.in-Err-Device.field-0-is)) in
@@ -136,6 +142,7 @@ pub returns-in-Err-Memory-clause-goes_on : goal.returns-in-Err-Memory-clause-goe
 returns-in-Err-Memory-clause-goes_on g c = record {
   nodes = search rules;
   ran = search rules;
+  begun = refl;
   listed = λ builds first is.
       let old = c.args.self.now in
       relisted first old.outbox old.outbox (desk_held old.desk) _ old.taker.got old.taker.got (state_of (desk_store old.desk)) _ (is_down (desk_store old.desk)) _ refl refl
@@ -146,6 +153,7 @@ pub returns-in-Err-Worn-clause-goes_on : goal.returns-in-Err-Worn-clause-goes_on
 returns-in-Err-Worn-clause-goes_on g c = record {
   nodes = search rules;
   ran = search rules;
+  begun = refl;
   listed = λ builds first is.
       let old = c.args.self.now in
       relisted first old.outbox old.outbox (desk_held old.desk) _ old.taker.got old.taker.got (state_of (desk_store old.desk)) _ (is_down (desk_store old.desk)) _ refl refl

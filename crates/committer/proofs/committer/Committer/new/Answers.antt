@@ -6,6 +6,7 @@ use Rattle.committer.proofs.Logs.{tied_new}
 use Rattle.checkpoint.specs.StoreWords.{state_of, is_down}
 use Rattle.generations.specs.declared.posting.Notice.{Notice}
 use Rattle.committer.proofs.Crashing.{up_leaves}
+use Rattle.committer.proofs.Leading.{led_first}
 use Rattle.committer.proofs.Listings.{begun_listed}
 use Rattle.committer.proofs.committer.Committer.new.Goals as goal
 
@@ -14,6 +15,7 @@ invariant_of-result g c = record {
   at_outbox = ap is_some c.requires.due;
   same_starts = c.requires.taker_starts ∙ sym (ap (λ (o : Outgoing). o.opening.starts) c.new-outbox.ensures ∙ c.requires.board_starts);
   tied = tied_new c.new-outbox.result c.args.writer.opening c.args.writer.posted _ _ _ _ c.new-outbox.ensures c.requires.posted c.requires.board_count c.requires.board_starts c.requires.held c.requires.taken c.requires.up;
+  led = led_first _ (desk_held c.args.desk) c.args.taker.got (state_of (desk_store c.args.desk)) c.requires.held c.requires.taken (sym (ap state_of (c.of-begun.ensures ∙ c.store.ensures)));
   whole = up_leaves (desk_store c.args.desk) (desk_held c.args.desk) c.requires.up;
 }
 

@@ -13,6 +13,7 @@ invariant_of-self g c =
       at_outbox = old.at_outbox;
       same_starts = old.same_starts ∙ sym (ap (λ (o : Outgoing). o.opening.starts) c.publish_again.ensures);
       tied = subst (λ (o : Outgoing). IsTied o.opening (all_of o) old.newest (desk_held old.desk) old.taker.got (state_of (desk_store old.desk)) (is_down (desk_store old.desk))) (sym c.publish_again.ensures) old.tied;
+      led = old.led;
       whole = old.whole;
     }
 

@@ -21,6 +21,7 @@ pub returns-then-is_down-clause-goes_on : goal.returns-then-is_down-clause-goes_
 returns-then-is_down-clause-goes_on g c = record {
   nodes = refl;
   ran = ran_none _;
+  begun = refl;
   listed = λ builds first is. paid_listed first c.args.self.now.outbox c.pay-paid.new.self c.pay-paid.result _ _ _ _ c.pay-paid.ensures is;
 }
 
@@ -42,6 +43,7 @@ pub returns-then-not-pay-clause-goes_on : goal.returns-then-not-pay-clause-goes_
 returns-then-not-pay-clause-goes_on g c = record {
   nodes = refl;
   ran = ran_none _;
+  begun = refl;
   listed = λ builds first is. paid_listed first c.args.self.now.outbox c.pay.new.self c.pay.result _ _ _ _ c.pay.ensures is;
 }
 
@@ -77,6 +79,7 @@ pub returns-then-held-eq0-clause-goes_on : goal.returns-then-held-eq0-clause-goe
 returns-then-held-eq0-clause-goes_on g c = record {
   nodes = ap nodes_of c.take_up-taken.ensures.store;
   ran = subst (λ s. IsSameDevice (view_of (desk_store c.args.self.now.desk)) (view_of s)) (sym c.take_up-taken.ensures.store) (ran_none _);
+  begun = c.take_up-taken.ensures.begun;
   listed = λ builds first is. c.take_up-taken.ensures.listed builds first (paid_listed first c.args.self.now.outbox c.pay.new.self c.pay.result _ _ _ _ c.pay.ensures is);
 }
 
@@ -129,6 +132,7 @@ pub returns-in_err-accepted-clause-goes_on : goal.returns-in_err-accepted-clause
 returns-in_err-accepted-clause-goes_on g c = record {
   nodes = c.commit.ensures.goes_on.nodes ∙ ap nodes_of c.take_up-taken.ensures.store;
   ran = subst (λ s. IsSameDevice (view_of s) (view_of (desk_store c.commit.new.self.desk))) c.take_up-taken.ensures.store c.commit.ensures.goes_on.ran;
+  begun = c.commit.ensures.goes_on.begun ∙ c.take_up-taken.ensures.begun;
   listed = λ builds first is. c.commit.ensures.goes_on.listed builds first (c.take_up-taken.ensures.listed builds first (paid_listed first c.args.self.now.outbox c.pay.new.self c.pay.result _ _ _ _ c.pay.ensures is));
 }
 
@@ -166,6 +170,7 @@ pub returns-clause-goes_on : goal.returns-clause-goes_on
 returns-clause-goes_on g c = record {
   nodes = c.commit.ensures.goes_on.nodes ∙ ap nodes_of c.take_up-taken.ensures.store;
   ran = subst (λ s. IsSameDevice (view_of s) (view_of (desk_store c.commit.new.self.desk))) c.take_up-taken.ensures.store c.commit.ensures.goes_on.ran;
+  begun = c.commit.ensures.goes_on.begun ∙ c.take_up-taken.ensures.begun;
   listed = λ builds first is. c.commit.ensures.goes_on.listed builds first (c.take_up-taken.ensures.listed builds first (paid_listed first c.args.self.now.outbox c.pay.new.self c.pay.result _ _ _ _ c.pay.ensures is));
 }
 

@@ -6,6 +6,7 @@ use Rattle.group_commit.specs.DeskWords.{store_of as desk_store, held_of as desk
 use Rattle.generations.proofs.Keeping.{drop_whole}
 use Rattle.committer.proofs.Answering.{takes_none, takes_now, now_taken}
 use Rattle.committer.proofs.Crashing.{held_first, none_of, taken_first, up_leaves}
+use Rattle.committer.proofs.Leading.{led_now}
 use Rattle.committer.proofs.Listings.{filled_now}
 use Rattle.committer.proofs.Logs.{tied_now}
 use Rattle.committer.proofs.Tying.{tied_no_later, tied_rises}
@@ -39,6 +40,7 @@ invariant_of-self g c =
       same_starts = same;
       tied = tied_now old.outbox old.newest (desk_held old.desk) (desk_held c.fill.new.desk) old.taker.got c.fill.new.taker.got _ _ _ _ c.fill.new.taker.starts old.tied none
           c.fill.ensures.front c.fill.ensures.rises same (ap state_of c.fill.ensures.store) (ap is_down c.fill.ensures.store);
+      led = led_now _ (desk_held old.desk) (desk_held c.fill.new.desk) old.taker.got c.fill.new.taker.got _ _ old.led none c.fill.ensures.front (ap state_of c.fill.ensures.store);
       whole = up_leaves (desk_store c.fill.new.desk) (desk_held c.fill.new.desk) (ap is_down c.fill.ensures.store ∙ c.requires.up);
     }
 
