@@ -29,7 +29,7 @@ Sole rows (field ∷ fields) values = ((v : ValueOf field) → Asks rows field v
 -- then another task of this name that is asked for is the same
 one_task : (rows : List Row) (read task : Task) → IsSo (bytes_eq (name_of read) (name_of task)) → Sole rows (fields_named (name_of read)) (values_of read)
     → EachOf (Asks rows) (fields_named (name_of task)) (values_of task) → IsSameTask read task
-one_task rows (Format device nodes) (Format other count) so sole is = (sole.0 other.now is.0, sole.1.0 count is.1.0)
+one_task rows (Format device nodes is_new) (Format other count fresh) so sole is = (sole.0 other.now is.0, sole.1.0 count is.1.0, sole.1.1.0 fresh is.1.1.0)
 one_task rows (Show device) (Show other) so sole is = sole.0 other.now is.0
 one_task rows (Edit device session ticket change) (Edit other s asked ops) so sole is = (sole.0 other.now is.0, sole.1.1.0 s is.1.1.0, sole.1.1.1.0 asked is.1.1.1.0, sole.1.0 ops is.1.0)
 one_task rows (Resume device session) (Resume other asked) so sole is = (sole.0 other.now is.0, sole.1.0 asked is.1.0)

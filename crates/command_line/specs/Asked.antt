@@ -1,6 +1,7 @@
 -- What the program's words ask for.
-use Rattle.std.specs.Prelude.{◌≡◌, ◌≢◌, ◌≤◌, ◌<◌, ◌^◌, ◌⊎◌, ℕ, List, [], ◌∷◌, Option, Some, None, IfSome, codes, decimal, map, option_map, length, All}
+use Rattle.std.specs.Prelude.{◌≡◌, ◌≢◌, ◌≤◌, ◌<◌, ◌^◌, ◌⊎◌, ℕ, Bool, false, List, [], ◌∷◌, Option, Some, None, IfSome, codes, decimal, map, option_map, length, All}
 use Rattle.std.specs.List.{flat_map}
+use Rattle.std.specs.Str.{bytes_eq}
 use Rattle.clap.specs.Walk.{Row, Text, all_of, first_of}
 use Rattle.clap.specs.Simple.{subcommand_of}
 use Rattle.clap.specs.Faults.{fault_of}
@@ -14,7 +15,7 @@ use Rattle.command_line.specs.declared.refused.WordsRefused.{WordsRefused}
 use Rattle.command_line.specs.declared.refused.WordsRefused.TheVariants as why
 use Rattle.command_line.specs.declared.task.Task.{Task}
 use Rattle.command_line.specs.declared.task.Task.TheVariants.{Format, Show, Edit, Resume, Route, Check, Migrate, Copy, Serve, Tables}
-use Rattle.command_line.specs.Fields.{Field, Word, Number, Usual, Optional, Live, Nodes, Pairs, Landmarks, Ops, fields_named}
+use Rattle.command_line.specs.Fields.{Field, Word, Number, Usual, Optional, Flag, Live, Nodes, Pairs, Landmarks, Ops, fields_named}
 use Rattle.command_line.specs.Grammar.{program}
 
 -- ---- what texts give a field
@@ -35,6 +36,11 @@ IsUsual (Some text) least most usual n = (text ≡ decimal n) × IsWithin least 
 -- the same, or there is neither text nor number
 abbrev pub IsOptional : Option Text → ℕ → ℕ → Option ℕ → Type 0
 IsOptional text least most n = (text ≡ option_map decimal n) × IfSome n (IsWithin least most)
+
+-- whether a flag is given, by its text
+abbrev pub is_flagged : Option Text → Bool
+is_flagged None = false
+is_flagged (Some text) = bytes_eq text (codes "true")
 
 -- `--live [--rounds R]`, or neither of them
 abbrev pub IsLive : Option Text → Option Text → Option ℕ → Type 0
@@ -73,6 +79,7 @@ ValueOf (Word id) = Text
 ValueOf (Number id least most) = ℕ
 ValueOf (Usual id least most usual) = ℕ
 ValueOf (Optional id least most) = Option ℕ
+ValueOf (Flag id) = Bool
 ValueOf Live = Option ℕ
 ValueOf (Nodes id) = List ℕ
 ValueOf Pairs = List (ℕ × ℕ)
@@ -85,6 +92,7 @@ Asks rows (Word id) text = first_of id rows ≡ Some text
 Asks rows (Number id least most) n = IsNumber (first_of id rows) least most n
 Asks rows (Usual id least most usual) n = IsUsual (first_of id rows) least most usual n
 Asks rows (Optional id least most) n = IsOptional (first_of id rows) least most n
+Asks rows (Flag id) given = given ≡ is_flagged (first_of id rows)
 Asks rows Live rounds = IsLive (first_of (codes "live") rows) (first_of (codes "rounds") rows) rounds
 Asks rows (Nodes id) nodes = AreNodes (all_of id rows) nodes
 Asks rows Pairs pairs = AreEnds rows (nodes_of pairs)
@@ -105,7 +113,7 @@ EachOf P (field ∷ fields) values = P field values.0 × EachOf P fields values.
 
 -- the name of a task's command
 abbrev pub name_of : Task → Text
-name_of (Format device nodes) = codes "format"
+name_of (Format device nodes is_new) = codes "format"
 name_of (Show device) = codes "show"
 name_of (Edit device session ticket change) = codes "edit"
 name_of (Resume device session) = codes "resume"
@@ -118,7 +126,7 @@ name_of (Tables device folder nodes words) = codes "tables"
 
 -- and what a task has of each of its fields
 abbrev pub values_of : (task : Task) → ValuesOf (fields_named (name_of task))
-values_of (Format device nodes) = (device.now, (nodes, tt))
+values_of (Format device nodes is_new) = (device.now, (nodes, (is_new, tt)))
 values_of (Show device) = (device.now, tt)
 values_of (Edit device session ticket change) = (device.now, (change, (session, (ticket, tt))))
 values_of (Resume device session) = (device.now, (session, tt))
@@ -143,7 +151,7 @@ IsAskedFor words task = (name : Text) × (rows : List Row) × IsCommand words na
 
 -- the same command, with the same texts and numbers
 abbrev pub IsSameTask : Task → Task → Type 0
-IsSameTask (Format device nodes) (Format other count) = (device.now ≡ other.now) × (nodes ≡ count)
+IsSameTask (Format device nodes is_new) (Format other count fresh) = (device.now ≡ other.now) × (nodes ≡ count) × (is_new ≡ fresh)
 IsSameTask (Show device) (Show other) = device.now ≡ other.now
 IsSameTask (Edit device session ticket change) (Edit other s asked ops) = (device.now ≡ other.now) × (session ≡ s) × (ticket ≡ asked) × (change ≡ ops)
 IsSameTask (Resume device session) (Resume other asked) = (device.now ≡ other.now) × (session ≡ asked)

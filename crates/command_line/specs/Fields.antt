@@ -13,6 +13,8 @@ pub data Field : Type 0 where
   Usual : Text → ℕ → ℕ → ℕ → Field
   -- `--ID N`: a number, or none
   Optional : Text → ℕ → ℕ → Field
+  -- `--ID`: whether it is given
+  Flag : Text → Field
   -- `--live --rounds R`: the rounds of a live service, or none of another
   Live : Field
   -- `[--ID NODE]..`: nodes, or none
@@ -27,7 +29,7 @@ pub data Field : Type 0 where
 -- each command's name and its fields
 abbrev pub table : List (Text × List Field)
 table =
-    (codes "format", Word (codes "device") ∷ Number (codes "nodes") 0 65535 ∷ [])
+    (codes "format", Word (codes "device") ∷ Number (codes "nodes") 0 65535 ∷ Flag (codes "new") ∷ [])
     ∷ (codes "show", Word (codes "device") ∷ [])
     ∷ (codes "edit", Word (codes "device") ∷ Ops ∷ Usual (codes "session") 0 63 0 ∷ Optional (codes "ticket") 1 9223372036854775807 ∷ [])
     ∷ (codes "resume", Word (codes "device") ∷ Number (codes "session") 0 63 ∷ [])

@@ -10,7 +10,7 @@ use Rattle.clap.specs.declared.builder.command.Command.{Command}
 use Rattle.clap.specs.declared.builder.command.Command.TheViews.{out-Command}
 use Rattle.command_line.specs.declared.grammar.Argument.{Argument}
 use Rattle.command_line.specs.declared.grammar.Argument.TheVariants as given
-use Rattle.command_line.specs.Fields.{Field, Word, Number, Usual, Optional, Live, Nodes, Pairs, Landmarks, Ops, table}
+use Rattle.command_line.specs.Fields.{Field, Word, Number, Usual, Optional, Flag, Live, Nodes, Pairs, Landmarks, Ops, table}
 
 -- a text that has to be given
 abbrev pub text_rule : Text → Rule
@@ -46,6 +46,7 @@ rules_of (Word id) = text_rule id ∷ []
 rules_of (Number id least most) = text_rule id ∷ []
 rules_of (Usual id least most usual) = option_rule id ∷ []
 rules_of (Optional id least most) = option_rule id ∷ []
+rules_of (Flag id) = flag_rule id ∷ []
 rules_of Live = flag_rule (codes "live") ∷ option_rule (codes "rounds") ∷ []
 rules_of (Nodes id) = repeated_rule id ∷ []
 rules_of Pairs = text_rule (codes "from") ∷ text_rule (codes "to") ∷ more_rule (codes "more") ∷ []

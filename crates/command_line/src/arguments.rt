@@ -3,7 +3,7 @@ ghost use Rattle.std.specs.Prelude.{◌≡◌, ◌↔◌, IfErr, IfOk, IsTrue, L
 ghost use Rattle.clap.specs.Walk.{all_of, first_of, texts};
 ghost use Rattle.graph_edits.specs.declared.edits.Op.{Op};
 ghost use Rattle.value_syntax.specs.OpText.{Fits, op_text};
-ghost use Rattle.command_line.specs.Asked.{AreEnds, AreNodes, AreOpsGiven, AreWordsGiven, IsLive, IsNumber, IsOptional, IsUsual, IsWithin, nodes_of};
+ghost use Rattle.command_line.specs.Asked.{AreEnds, AreNodes, AreOpsGiven, AreWordsGiven, IsLive, IsNumber, IsOptional, IsUsual, IsWithin, is_flagged, nodes_of};
 ghost use Rattle.command_line.specs.Fields.{Landmarks, Ops};
 ghost use Rattle.command_line.specs.Readings.{IsOpRefusal, IsRead, Reads, rows_in};
 
@@ -93,7 +93,7 @@ impl<'a, 'b> Arguments<'a, 'b> {
     pub(crate) fn live(&self) -> Result<Option<u16>, WordsRefused>
         ensures { Reads (λ rounds. rounds) (IsLive (first_of (codes "live") (rows_in self.now)) (first_of (codes "rounds") (rows_in self.now))) result }
     {
-        if self.is_flagged() {
+        if self.flag("live") {
             return Ok(Some(self.usual("rounds", 1, 65_535, 16)? as u16));
         }
         match self.given("rounds") {
@@ -102,11 +102,12 @@ impl<'a, 'b> Arguments<'a, 'b> {
         }
     }
 
-    // Whether the words ask for a live service.
-    fn is_flagged(&self) -> bool
-        ensures { IsTrue result ↔ (first_of (codes "live") (rows_in self.now) ≡ Some (codes "true")) }
+    // Whether a flag is given.
+    pub(crate) fn flag(&self, id: &str) -> bool
+        ensures value { result ≡ is_flagged (first_of id.now (rows_in self.now)) }
+        ensures given { IsTrue result ↔ (first_of id.now (rows_in self.now) ≡ Some (codes "true")) }
     {
-        match self.given("live") {
+        match self.given(id) {
             Some(text) => text == "true",
             None => false,
         }

@@ -82,7 +82,8 @@ pub(crate) fn grammar<'a>(alloc: Global) -> Result<Command<'a>, AllocError>
     let bare = Command::new(alloc, "tznode")
         .no_binary_name(true)
         .subcommand_required(true);
-    let formats = with(alloc, bare, "format", &[device, Argument::Text("nodes")])?;
+    let format = [device, Argument::Text("nodes"), Argument::Flag("new")];
+    let formats = with(alloc, bare, "format", &format)?;
     let shows = with(alloc, formats, "show", &[device])?;
     let edit = [
         device,

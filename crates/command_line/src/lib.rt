@@ -2,7 +2,7 @@
 //!
 //! | Words | Task |
 //! |---|---|
-//! | `format DEVICE N` | [`Task::Format`] |
+//! | `format DEVICE N`, with or without `--new` | [`Task::Format`] |
 //! | `show DEVICE` | [`Task::Show`] |
 //! | `edit DEVICE OP.. --session S --ticket T` | [`Task::Edit`], of 1 to 16 OPs; both options may be left out: session 0, the next ticket |
 //! | `resume DEVICE S` | [`Task::Resume`] |
@@ -13,6 +13,9 @@
 //! | `serve DEVICE --words W --editors E --forwarders F --queue Q` | [`Task::Serve`], of 1 to 64 each; without them 2, 2 and 64 |
 //! | the same with `--live --rounds R` | a live service, R from 1 to 65,535; without R it is 16, and R stands with `--live` alone |
 //! | `tables DEVICE FOLDER --words W [--node N]..` | [`Task::Tables`], of the nodes that are named, in order, or of none |
+//!
+//! What the program says of itself is [`HELP`]; whoever runs it looks there first (`program_help`), since for the grammar the words for it
+//! are no command.
 //!
 //! `clap` reads the words: each command is a subcommand, with none below it, and each value is a text. Numbers, OPs and W are read
 //! from these texts by [`value_syntax`]. No file is opened and nothing is printed.
@@ -32,8 +35,10 @@
 
 mod arguments;
 mod grammar;
+mod help;
 mod refused;
 mod task;
 
+pub use help::HELP;
 pub use refused::WordsRefused;
 pub use task::{Task, parse_task};

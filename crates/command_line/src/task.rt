@@ -22,6 +22,8 @@ pub enum Task<'a> {
     Format {
         device: &'a str,
         nodes: u16,
+        /// Nothing may stand there yet.
+        is_new: bool,
     },
     /// Print the count and the edges.
     Show {
@@ -121,7 +123,12 @@ fn task_of<'a>(name: &str, arguments: &Arguments<'a, '_>) -> Result<Task<'a>, Wo
     let device = arguments.text("device")?;
     if name == "format" {
         let nodes = arguments.number("nodes", 0, 65_535)? as u16;
-        Ok(Task::Format { device, nodes })
+        let is_new = arguments.flag("new");
+        Ok(Task::Format {
+            device,
+            nodes,
+            is_new,
+        })
     } else if name == "show" {
         Ok(Task::Show { device })
     } else if name == "edit" {

@@ -3,7 +3,7 @@ use Rattle.std.specs.Prelude.{ℕ, List, [], ◌∷◌, ◌++◌, codes}
 use Rattle.command_output.specs.declared.ended.Ended.{Ended}
 use Rattle.command_output.specs.declared.ended.Ended.TheVariants.{Done, Refused}
 use Rattle.command_output.specs.declared.fault.Fault.{Fault}
-use Rattle.command_output.specs.declared.fault.Fault.TheVariants.{Usage, Op, Words, Script, ChangeTooLong, NodeCount, DeviceLength, DeviceFile, DeviceInUse, NotFormatted, LayoutNotKnown, Damaged, Device, Memory, NoThread, Internal, Worn, AlreadyIn, NoNode, Output, TableFile}
+use Rattle.command_output.specs.declared.fault.Fault.TheVariants.{Usage, Op, Words, Script, ChangeTooLong, NodeCount, DeviceLength, DeviceFile, FileExists, DeviceInUse, NotFormatted, LayoutNotKnown, Damaged, Device, Memory, NoThread, Internal, Worn, AlreadyIn, NoNode, Output, TableFile}
 
 -- what is told of a fault
 abbrev pub fault_text : Fault → List ℕ
@@ -15,6 +15,7 @@ fault_text ChangeTooLong = codes "change too long"
 fault_text NodeCount = codes "node count out of range"
 fault_text DeviceLength = codes "device length is wrong"
 fault_text DeviceFile = codes "device file cannot be used"
+fault_text FileExists = codes "file exists"
 fault_text DeviceInUse = codes "device in use"
 fault_text NotFormatted = codes "not formatted"
 fault_text LayoutNotKnown = codes "layout not known"
@@ -51,6 +52,7 @@ status_of ChangeTooLong = 1
 status_of NodeCount = 1
 status_of DeviceLength = 1
 status_of DeviceFile = 1
+status_of FileExists = 1
 status_of DeviceInUse = 1
 status_of NotFormatted = 1
 status_of LayoutNotKnown = 1

@@ -25,6 +25,8 @@ pub enum Fault {
     DeviceLength,
     /// The file can't be made or opened.
     DeviceFile,
+    /// A file that is to be made where nothing stands is there already.
+    FileExists,
     /// Another program has the file's lock.
     DeviceInUse,
     /// The file's front isn't that of a device.
@@ -67,6 +69,7 @@ impl Fault {
             Fault::NodeCount => "node count out of range",
             Fault::DeviceLength => "device length is wrong",
             Fault::DeviceFile => "device file cannot be used",
+            Fault::FileExists => "file exists",
             Fault::DeviceInUse => "device in use",
             Fault::NotFormatted => "not formatted",
             Fault::LayoutNotKnown => "layout not known",

@@ -200,7 +200,7 @@ fails_serving model done put words given old new fault asks (inr may) = inr (may
 
 -- a task of the name of a service is one
 serves_by_name : (task : Task) → name_of task ≡ codes "serve" → IsService task
-serves_by_name (Format device nodes) same = (let first : 102 ≡ 115 = ap (λ (n : Text). get_or n 0 0) same in omega (arith, first))
+serves_by_name (Format device nodes is_new) same = (let first : 102 ≡ 115 = ap (λ (n : Text). get_or n 0 0) same in omega (arith, first))
 serves_by_name (Show device) same = (let second : 104 ≡ 101 = ap (λ (n : Text). get_or n 1 0) same in omega (arith, second))
 serves_by_name (Edit device session ticket change) same = (let first : 101 ≡ 115 = ap (λ (n : Text). get_or n 0 0) same in omega (arith, first))
 serves_by_name (Resume device session) same = (let first : 114 ≡ 115 = ap (λ (n : Text). get_or n 0 0) same in omega (arith, first))

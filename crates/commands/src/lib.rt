@@ -37,6 +37,7 @@
 #![tactic(auto)]
 
 mod clocked_gate;
+mod notes;
 mod outcome;
 mod running;
 mod service;
@@ -46,6 +47,7 @@ mod streams;
 pub use file_commands::{
     Access, Copied, DeviceLog, Devices, check_device, copy_device, route_device,
 };
+pub use notes::tell_suspects;
 pub use outcome::Outcome;
 pub use running::{run_on, run_words, run_words_at};
 pub use service::reading_fault;

@@ -10,6 +10,7 @@ ghost use Rattle.commands.specs.Serves.{IsLiveService, MayRun};
 ghost use Rattle.commands.specs.Runs.{AnyPut, MakesOnlyLive, PutsOnlyAsked, RunsTask, RunsWords, SaysAll, SaysAlone, SaysServing, SaysTables, StopsServing, streams_of, words_fault};
 ghost use Rattle.file_commands.specs.Uses.{device_use, stream};
 
+use crate::notes::tell_cause;
 use crate::outcome::{Outcome, told};
 use crate::service::{LiveService, Service, run_live, run_serve};
 use crate::sites::{At, Sites};
@@ -17,9 +18,9 @@ use crate::streams::Streams;
 use command_line::{Task, WordsRefused, parse_task};
 use command_output::{Fault, FaultWriter, WatchedWriter};
 use committer_thread::ServiceConfig;
-use device_files::DeviceFile;
+use device_files::{DeviceFile, FileRefused};
 use disk_trait::Disk;
-use file_commands::{FileDevices, run_task};
+use file_commands::{Access, FileDevices, run_task};
 use new_devices::{NewDevices, SystemDevices};
 use std::fs::File;
 use std::io::{Read, Write};
@@ -61,6 +62,8 @@ where
 }
 
 /// The same with the files of `tables` put at this place.
+///
+/// Behind a fault of a file comes a line on `err` that names the file and the cause, where the system told one.
 pub fn run_words_at<R, T, S, O, E>(
     rt: &R,
     tables: &mut T,
@@ -81,6 +84,32 @@ where
 
     ensures unput { PutsOnlyAsked (texts words.now) T.puts tables.old tables.new }
 {
+    let (status, refused) = run_files(rt, tables, words, script, out, err);
+    tell_cause(rt.alloc(), words, refused, err);
+    status
+}
+
+// The same without these lines. Also how a file was asked for that couldn't be had, and why not.
+fn run_files<R, T, S, O, E>(
+    rt: &R,
+    tables: &mut T,
+    words: &[&str],
+    script: &mut S,
+    out: &mut O,
+    err: &mut E,
+) -> (u8, Option<(Access, FileRefused)>)
+where
+    R: Files<File = File> + AllocGlobal + Clock + Threads + Wait + Sync,
+    R::Dir: Send,
+    T: TableFiles + Send,
+    S: Read + Send,
+    O: Write,
+    E: Write,
+    ensures says { SaysAll (device_use ⟦<DeviceFile as Disk>⟧ AreFiles) (PutBy T.puts tables.old tables.new) (texts words.now)
+        (stream S.remaining script.old script.new) (stream O.contents out.old out.new) result.0 }
+
+    ensures unput { PutsOnlyAsked (texts words.now) T.puts tables.old tables.new }
+{
     let mut faults = WatchedWriter::new(err);
     let mut devices = FileDevices::new(rt);
     let mut backups = SystemDevices::new(rt);
@@ -90,7 +119,7 @@ where
         err: &mut faults,
     };
     let at = At::new(&mut devices, &mut backups, tables);
-    run_lent(rt, at, words, lent).status()
+    (run_lent(rt, at, words, lent).status(), devices.refused())
 }
 
 /// Does what the words ask for on devices of any kind, and answers how it ended. The backups that lines of a live service ask for are

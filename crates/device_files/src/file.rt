@@ -1,12 +1,13 @@
 //! A disk on a file that is locked.
-ghost use Rattle.std.specs.Prelude.{◌≡◌, ◌⊎◌, IfOk};
+ghost use Rattle.std.specs.Prelude.{◌≡◌, IfOk};
 
 use crate::held::{Held, filled, locked};
+use crate::names::{
+    beside, judged, judged_open, put, refusal_beside, refusal_of, removed, sync_folder, unnamed,
+};
 use crate::refused::FileRefused;
 use disk_trait::{DeviceFault, Disk, FileDisk};
 use std::fs::{File, OpenOptions};
-use std::io::{self, ErrorKind};
-use std::path::Path;
 use std::rt::Files;
 
 /// Whom a lock keeps out.
@@ -26,54 +27,16 @@ pub struct DeviceFile {
     held: Held<FileDisk>,
 }
 
-// Syncs the folder in which a file stands, so that its name is kept.
-fn sync_folder<R: Files<File = File>>(files: &R, path: &str) -> io::Result<()> {
-    let folder = match Path::new(path).parent() {
-        Some(folder) if !folder.as_os_str().is_empty() => folder.as_os_str(),
-        _ => ".",
-    };
-    OpenOptions::new()
-        .read(true)
-        .open(files, folder)?
-        .sync_all()
-}
-
-// Why a file can't be opened or made.
-fn refusal_of(error: io::Error) -> FileRefused
-    ensures { (result ≡ FileRefused.Exists) ⊎ (result ≡ FileRefused.Unusable) }
-{
-    match error.kind() {
-        ErrorKind::AlreadyExists => FileRefused::Exists,
-        _ => FileRefused::Unusable,
-    }
-}
-
 impl DeviceFile {
     ghost use Rattle.device_files.specs.DeviceFiles.{lock_of};
-
-    // The disk of a file that these options make or open, which is emptied and filled with so many zeros once it is locked alone.
-    fn filled<R: Files<File = File>>(
-        files: &R,
-        path: &str,
-        options: &mut OpenOptions,
-        len: usize,
-    ) -> Result<DeviceFile, FileRefused>
-        ensures { IfOk result (λ device. lock_of device ≡ Lock.Alone) }
-    {
-        let file = match options.read(true).write(true).open(files, path) {
-            Ok(file) => file,
-            Err(error) => return Err(refusal_of(error)),
-        };
-        let held = filled(file, len)?;
-        sync_folder(files, path)?;
-        Ok(DeviceFile { held })
-    }
 
     /// Opens a file that is there, for reading and writing, and locks it alone.
     pub fn open<R: Files<File = File>>(files: &R, path: &str) -> Result<DeviceFile, FileRefused>
         ensures alone { IfOk result (λ device. lock_of device ≡ Lock.Alone) }
     {
+        judged(files, path)?;
         let file = OpenOptions::new().read(true).write(true).open(files, path)?;
+        judged_open(&file)?;
         let held = locked(file, Lock::Alone)?;
         Ok(DeviceFile { held })
     }
@@ -85,11 +48,9 @@ impl DeviceFile {
     ) -> Result<DeviceFile, FileRefused>
         ensures shared { IfOk result (λ device. lock_of device ≡ Lock.Shared) }
     {
+        judged(files, path)?;
         let file = OpenOptions::new().read(true).open(files, path)?;
-        // A folder can be opened to read.
-        if file.metadata()?.is_dir() {
-            return Err(FileRefused::Unusable);
-        }
+        judged_open(&file)?;
         let held = locked(file, Lock::Shared)?;
         Ok(DeviceFile { held })
     }
@@ -103,10 +64,20 @@ impl DeviceFile {
     ) -> Result<DeviceFile, FileRefused>
         ensures alone { IfOk result (λ device. lock_of device ≡ Lock.Alone) }
     {
-        DeviceFile::filled(files, path, OpenOptions::new().create(true), len)
+        judged(files, path)?;
+        let file = OpenOptions::new()
+            .read(true)
+            .write(true)
+            .create(true)
+            .open(files, path)?;
+        judged_open(&file)?;
+        let held = filled(file, len)?;
+        sync_folder(files, path)?;
+        Ok(DeviceFile { held })
     }
 
-    /// Makes a file of so many zeros where nothing stands yet, and locks it alone.
+    /// Makes a file of so many zeros where nothing stands yet, and locks it alone. It is made beside, under the name of the path and
+    /// `.new`, and comes to its path once it has all its zeros: what is refused leaves no file there, and none beside.
     pub fn make_new<R: Files<File = File>>(
         files: &R,
         path: &str,
@@ -114,7 +85,32 @@ impl DeviceFile {
     ) -> Result<DeviceFile, FileRefused>
         ensures alone { IfOk result (λ device. lock_of device ≡ Lock.Alone) }
     {
-        DeviceFile::filled(files, path, OpenOptions::new().create_new(true), len)
+        let made = beside(files, path)?;
+        let file = match OpenOptions::new()
+            .read(true)
+            .write(true)
+            .create_new(true)
+            .open(files, made.as_str())
+        {
+            Ok(file) => file,
+            Err(error) => return Err(refusal_beside(refusal_of(error))),
+        };
+        match filled(file, len) {
+            Ok(held) => {
+                put(files, made.as_str(), path)?;
+                Ok(DeviceFile { held })
+            }
+            Err(refused) => {
+                removed(files, made.as_str());
+                Err(refused)
+            }
+        }
+    }
+
+    /// Takes the name of a file away that was made new by this path. It is gone once it is dropped. Where the system refuses that, the
+    /// name stays.
+    pub fn unname<R: Files<File = File>>(&self, files: &R, path: &str) {
+        unnamed(files, path);
     }
 
     /// Its lock.

@@ -27,7 +27,9 @@ use Rattle.device_commands.specs.Answer.{IsNew, state_after, verdict_of}
 use Rattle.device_commands.specs.Edits.{IsPastLimits}
 use Rattle.device_commands.specs.Moves.{IsMoveFault}
 use Rattle.device_commands.specs.Openings.{IsEditFault, IsReading, IsUnwrittenFault, OfContent, TellsOf}
+use Rattle.std.specs.Borrow.{Bor}
 use Rattle.command_line.specs.declared.task.Task.{Task}
+use Rattle.command_line.specs.declared.task.Task.TheVariants.{Format, Show, Edit, Resume, Route as RouteTask, Check, Migrate, Copy, Serve, Tables}
 use Rattle.table_files.specs.Files.{Put}
 use Rattle.file_commands.specs.declared.devices.Access.{Access}
 use Rattle.file_commands.specs.declared.devices.Access.TheVariants.{New, ToRead}
@@ -35,14 +37,15 @@ use Rattle.file_commands.specs.declared.copying.Copied.{Copied}
 use Rattle.file_commands.specs.declared.on_device.Transfer.{Transfer}
 use Rattle.file_commands.specs.declared.on_device.Transfer.TheVariants as how
 use Rattle.file_commands.specs.Copies.{HasCopied, IsTotalOf, copied_text}
-use Rattle.file_commands.specs.Devices.{Doing, Ending, IsAnswerOf, IsFileFault, OfFirst, Printing}
+use Rattle.file_commands.specs.Devices.{Doing, Ending, IsAccessFault, IsAnswerOf, IsFileFault, OfFirst, Printing}
 use Rattle.file_commands.specs.Events.{Closed, Event, HasDone, IsOf, NotHad, Opened, Opening}
 use Rattle.file_commands.specs.Endings.{IsAskingEnd, IsCheckDeviceFault, IsEditEnd, IsReadingEnd, IsRouteDeviceFault, IsRouteEnd, IsTransferEnd, OrOutput, access_of, device_of}
 use Rattle.file_commands.specs.Queries.{AnswersOf, AreRoutesIn, IsCheckIn, LacksNodeOf}
 use Rattle.file_commands.specs.Printed.{PrintsCheck, PrintsCopied, PrintsListing, PrintsRoutes, PrintsTicket, PrintsVerdict, ended_by, verdict_text}
-use Rattle.file_commands.specs.Runs.{EndsAfter, EndsAt, EndsOn, EndsTaskOn, EndsTransferAt, EndsTransferOn}
+use Rattle.file_commands.specs.Runs.{EndsAfter, EndsAt, EndsOn, EndsTask, EndsTaskOn, EndsTransferAt, EndsTransferOn}
 use Rattle.file_commands.specs.SchemeAnswers.{AreRoutesOf, checks_text, ended_after, ended_at, routes_text}
-use Rattle.file_commands.specs.Uses.{Stream, Views, device_use, known_after, known_before, stream, views}
+use Rattle.file_commands.specs.Tasks.{IsService}
+use Rattle.file_commands.specs.Uses.{DeviceUse, Stream, Views, device_use, known_after, known_before, stream, views}
 
 -- ---- what was printed
 
@@ -249,14 +252,14 @@ ends_at model done put task path access out disk left r here so did is =
 
 -- and one whose device can't be had tells that
 pub ends_early : {D W : Type 0} (model : Ghosts D) (done : Doing D) (put : List Put → Type 0) (task : Task) (path : List ℕ) (access : Access) (contents : W → Known) (old : W) (r : Result Ended Fault) (fault : Fault)
-    → path ≡ device_of task → access ≡ access_of task → IsErrAnd r (λ e. e ≡ fault) → done (NotHad path access ∷ []) → put [] → IsFileFault fault → EndsAt (device_use model done) put task (stream contents old old) r
+    → path ≡ device_of task → access ≡ access_of task → IsErrAnd r (λ e. e ≡ fault) → done (NotHad path access ∷ []) → put [] → IsAccessFault access fault → EndsAt (device_use model done) put task (stream contents old old) r
 ends_early model done put task path access contents old (Ok ended) fault here so is did none why = absurd is
 ends_early model done put task path access contents old (Err e) fault here so is did none why = record {
   printed = tt;
   fault = inl (
     subst (λ (a : Access). done (NotHad (device_of task) a ∷ [])) so (subst (λ (p : List ℕ). done (NotHad p access ∷ [])) here did),
     none,
-    subst (λ (f : Fault). IsFileFault f) (sym is) why,
+    subst (λ (f : Fault). IsAccessFault (access_of task) f) (sym is) (subst (λ (a : Access). IsAccessFault a fault) so why),
   );
   untouched = λ other. refl;
 }
@@ -316,3 +319,18 @@ not_transferred model done transfer from_path to_path contents old (Err e) fault
   fault = inl (did, subst (λ (f : Fault). IsFileFault f) (sym is) why);
   untouched = λ other. refl;
 }
+
+-- a task on one device that is no service ends as it does by its device's path
+pub at_rest : {D W : Type 0} (devices : DeviceUse D) (put : List Put → Type 0) (task : Task) (out : Stream W) (r : Result Ended Fault)
+    → ((old new : Bor (List ℕ)) → task ≡ Migrate old new → ⊥) → ((old new : Bor (List ℕ)) → task ≡ Copy old new → ⊥) → (IsService task → ⊥)
+    → EndsAt devices put task out r → EndsTask devices put task out r
+at_rest devices put (Migrate old new) out r migrates copies batch ends = absurd (migrates old new refl)
+at_rest devices put (Copy old new) out r migrates copies batch ends = absurd (copies old new refl)
+at_rest devices put (Serve device editors forwarders places live words) out r migrates copies batch ends = absurd (batch tt)
+at_rest devices put (Format device nodes is_new) out r migrates copies batch ends = ends
+at_rest devices put (Show device) out r migrates copies batch ends = ends
+at_rest devices put (Edit device session ticket change) out r migrates copies batch ends = ends
+at_rest devices put (Resume device session) out r migrates copies batch ends = ends
+at_rest devices put (RouteTask device pairs words) out r migrates copies batch ends = ends
+at_rest devices put (Check device words) out r migrates copies batch ends = ends
+at_rest devices put (Tables device folder nodes words) out r migrates copies batch ends = ends

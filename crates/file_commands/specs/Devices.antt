@@ -15,7 +15,7 @@ use Rattle.device_files.specs.declared.file.Lock.TheVariants.{Alone, Shared}
 use Rattle.table_files.specs.Files.{Put}
 use Rattle.file_commands.specs.Events.{Event, Opened, NotHad, Closed, IsOf}
 use Rattle.file_commands.specs.declared.devices.Access.{Access}
-use Rattle.file_commands.specs.declared.devices.Access.TheVariants.{ToRead, New}
+use Rattle.file_commands.specs.declared.devices.Access.TheVariants.{ToRead, New, Fresh}
 
 -- what a command prints that ends so: of what a device was and is, and of what stood on the writer and stands there
 abbrev pub Printing : Type 1
@@ -45,6 +45,11 @@ abbrev pub IsFileFault : Fault → Type 0
 IsFileFault told.DeviceFile = Unit {0}
 IsFileFault told.DeviceInUse = Unit {0}
 IsFileFault fault = ⊥
+
+-- the same of one that is asked for so; where it is made fresh also that a file stands there
+abbrev pub IsAccessFault : Access → Fault → Type 0
+IsAccessFault Fresh fault = (fault ≡ told.FileExists) ⊎ IsFileFault fault
+IsAccessFault access fault = IsFileFault fault
 
 -- ---- devices
 
@@ -78,7 +83,7 @@ OfFirst {D} done old new = (from : D) × done (Opened old ToRead from ∷ NotHad
 -- A fault of a command on one device: the device can't be had, and no file was put; or it was opened, and this ends the command.
 abbrev pub EndsBy : {D : Type 0} → Ghosts D → Doing D → (List Put → Type 0) → List ℕ → Access → Ending → Fault → Type 0
 EndsBy model done put path access MayFail fault =
-    (done (NotHad path access ∷ []) × put [] × IsFileFault fault) ⊎ OfOpened model done path access (λ disk left. MayFail disk left fault)
+    (done (NotHad path access ∷ []) × put [] × IsAccessFault access fault) ⊎ OfOpened model done path access (λ disk left. MayFail disk left fault)
 
 -- An answer of the state for which a device's content stands; where it stands for none, or nothing is known of it, of some state.
 pub record IsAnswerOf (disk : DiskView) (P : State → Type 0) : Type 0 where

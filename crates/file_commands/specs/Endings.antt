@@ -1,5 +1,5 @@
 -- Which faults may end a task that is no service.
-use Rattle.std.specs.Prelude.{◌≡◌, ◌≢◌, ◌<◌, ◌⊎◌, ℕ, List, [], ◌∷◌, Option, IsTrue, length}
+use Rattle.std.specs.Prelude.{◌≡◌, ◌≢◌, ◌<◌, ◌⊎◌, ℕ, List, [], ◌∷◌, Option, IsTrue, cond, length}
 use Rattle.disk_trait.specs.declared.disk.Disk.{Ghosts}
 use Rattle.disk_trait.specs.Disk.{DiskView, LeavesOnly, OnlyRead}
 use Rattle.graph_edits.specs.declared.edits.Op.{Op}
@@ -20,7 +20,7 @@ use Rattle.file_commands.specs.Copies.{CopiesWholly}
 use Rattle.command_line.specs.declared.task.Task.{Task}
 use Rattle.command_line.specs.declared.task.Task.TheVariants.{Format, Show, Edit, Resume, Route, Check, Migrate, Copy, Serve, Tables}
 use Rattle.file_commands.specs.declared.devices.Access.{Access}
-use Rattle.file_commands.specs.declared.devices.Access.TheVariants.{ToRead, ToChange, Anew}
+use Rattle.file_commands.specs.declared.devices.Access.TheVariants.{ToRead, ToChange, Anew, Fresh}
 use Rattle.file_commands.specs.declared.on_device.Transfer.{Transfer}
 use Rattle.file_commands.specs.declared.on_device.Transfer.TheVariants as how
 use Rattle.file_commands.specs.Devices.{Doing, EndsBy, Ending, IsAnswerOf, IsFileFault, OfFirst, OfTwo}
@@ -40,7 +40,7 @@ NamesNodes (Drawn seed) = ⊥
 
 -- the path of a task's device; of `migrate` and `copy` the old one
 abbrev pub device_of : Task → List ℕ
-device_of (Format device nodes) = device.now
+device_of (Format device nodes is_new) = device.now
 device_of (Show device) = device.now
 device_of (Edit device session ticket change) = device.now
 device_of (Resume device session) = device.now
@@ -53,7 +53,7 @@ device_of (Tables device folder nodes words) = device.now
 
 -- how a task has it
 abbrev pub access_of : Task → Access
-access_of (Format device nodes) = Anew
+access_of (Format device nodes is_new) = cond is_new Fresh Anew
 access_of (Edit device session ticket change) = ToChange
 access_of (Serve device editors forwarders places live words) = ToChange
 access_of task = ToRead
@@ -70,7 +70,7 @@ ChangesWholly session ticket change disk left =
 
 -- what a task does to its device, whatever ends it, and at any moment until it is closed
 abbrev pub Leaves : Task → DiskView → DiskView → Type 0
-Leaves (Format device nodes) disk left = Unit {0}
+Leaves (Format device nodes is_new) disk left = Unit {0}
 Leaves (Edit device session ticket change) disk left = ChangesWholly session ticket change disk left
 Leaves task disk left = IsOnlyRead disk left
 
@@ -165,7 +165,7 @@ IsTablesEnd asked folder named put disk left fault =
 
 -- which fault ends a task on one device that puts no files; the device is open
 abbrev pub EndsAlone : Task → DiskView → DiskView → Fault → Type 0
-EndsAlone (Format device nodes) disk left fault = OrOutput (IsFormatEnd nodes) disk left fault
+EndsAlone (Format device nodes is_new) disk left fault = OrOutput (IsFormatEnd nodes) disk left fault
 EndsAlone (Show device) disk left fault = OrOutput (IsReadingEnd IsOpenFault) disk left fault
 EndsAlone (Edit device session ticket change) disk left fault = OrOutput (IsEditEnd session ticket change) disk left fault
 EndsAlone (Resume device session) disk left fault = OrOutput (IsReadingEnd IsOpenFault) disk left fault

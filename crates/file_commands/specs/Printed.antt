@@ -106,7 +106,7 @@ PrintsTables words folder named put disk left ended old new =
 
 -- what a task on one device has printed that puts no files, and what it leaves of that device, which is open
 abbrev pub PrintsAlone : Task → DiskView → DiskView → Ended → Known → Known → Type 0
-PrintsAlone (Format device nodes) disk left ended old new = PrintsFormatted nodes disk left ended old new
+PrintsAlone (Format device nodes is_new) disk left ended old new = PrintsFormatted nodes disk left ended old new
 PrintsAlone (Show device) disk left ended old new = PrintsListing disk left ended old new
 PrintsAlone (Edit device session ticket change) disk left ended old new = PrintsVerdict session ticket change disk left ended old new
 PrintsAlone (Resume device session) disk left ended old new = PrintsTicket session disk left ended old new

@@ -1,6 +1,6 @@
 //! Where the program's devices are, and how a command comes to its own.
 ghost use Rattle.std.specs.Prelude.{◌≡◌, ◌∷◌, ◌++◌, [], ℕ, List, IfOk, IfErr, OnErr};
-ghost use Rattle.file_commands.specs.Devices.{IsFileFault, IsFileOf};
+ghost use Rattle.file_commands.specs.Devices.{IsAccessFault, IsFileOf};
 
 use crate::device_log::DeviceLog;
 use command_output::Fault;
@@ -20,6 +20,8 @@ pub enum Access {
     Anew,
     /// Made where nothing stands yet.
     New,
+    /// The same, and where something stands that is told by a fault of its own.
+    Fresh,
 }
 
 /// Where the program's devices are. A command asks here for its device, has no other way to one, and gives it back here.
@@ -41,17 +43,25 @@ pub trait Devices {
         ensures listed { IfOk result (λ device.
             events self.new ≡ events self.old ++ Opened path.now access device ∷ []) }
         ensures not_had { OnErr result (events self.new ≡ events self.old ++ NotHad path.now access ∷ []) }
-        ensures fault { IfErr result (λ fault. IsFileFault fault) };
+        ensures fault { IfErr result (λ fault. IsAccessFault access fault) };
 
     /// Takes a device back. Nothing can be done with it from then on.
     fn close(&mut self, device: Self::Device)
         ensures { events self.new ≡ events self.old ++ Closed device ∷ [] };
+
+    /// The same with a device that was made new and holds nothing of use. Where devices have names, its name goes too.
+    fn discard(&mut self, _path: &str, device: Self::Device)
+        ensures { events self.new ≡ events self.old ++ Closed device ∷ [] }
+    {
+        self.close(device);
+    }
 }
 
 /// Devices that are files of the system.
 #[derive(Drop)]
 pub struct FileDevices<'a, R> {
     files: &'a R,
+    refused: Option<(Access, FileRefused)>,
     // For contracts alone.
     done: DeviceLog<DeviceFile>,
 }
@@ -61,8 +71,14 @@ impl<'a, R> FileDevices<'a, R> {
     pub fn new(files: &'a R) -> FileDevices<'a, R> {
         FileDevices {
             files,
+            refused: None,
             done: DeviceLog::new(),
         }
+    }
+
+    /// How a file was asked for that couldn't be had, and why not; of several the last one.
+    pub fn refused(&self) -> Option<(Access, FileRefused)> {
+        self.refused
     }
 }
 
@@ -83,14 +99,20 @@ impl<R: Files<File = File>> Devices for FileDevices<'_, R> {
                 Ok(file)
             }
             Err(refused) => {
+                self.refused = Some((access, refused));
                 self.done.not_had(path, access);
-                Err(fault_of(refused))
+                Err(fault_of(access, refused))
             }
         }
     }
 
     fn close(&mut self, device: DeviceFile) {
         self.done.closed(&device);
+    }
+
+    fn discard(&mut self, path: &str, device: DeviceFile) {
+        device.unname(self.files, path);
+        self.close(device);
     }
 }
 
@@ -106,16 +128,17 @@ fn open_file<R: Files<File = File>>(
         Access::ToRead => DeviceFile::open_to_read(files, path),
         Access::ToChange => DeviceFile::open(files, path),
         Access::Anew => DeviceFile::make(files, path, checkpoint::DEVICE_LEN),
-        Access::New => DeviceFile::make_new(files, path, checkpoint::DEVICE_LEN),
+        Access::New | Access::Fresh => DeviceFile::make_new(files, path, checkpoint::DEVICE_LEN),
     }
 }
 
 // What is told of a file that can't be had.
-fn fault_of(refused: FileRefused) -> Fault
-    ensures { IsFileFault result }
+fn fault_of(access: Access, refused: FileRefused) -> Fault
+    ensures { IsAccessFault access result }
 {
-    match refused {
-        FileRefused::InUse => Fault::DeviceInUse,
-        FileRefused::Exists | FileRefused::Unusable => Fault::DeviceFile,
+    match (access, refused) {
+        (Access::Fresh, FileRefused::Exists) => Fault::FileExists,
+        (_, FileRefused::InUse) => Fault::DeviceInUse,
+        _ => Fault::DeviceFile,
     }
 }

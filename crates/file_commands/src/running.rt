@@ -1,7 +1,7 @@
 //! Any task that is no service, on devices of any kind.
-ghost use Rattle.std.specs.Prelude.{◌≡◌};
+ghost use Rattle.std.specs.Prelude.{◌≡◌, ◌++◌, ◌∷◌, [], cond};
 ghost use Rattle.file_commands.specs.Endings.{access_of, device_of};
-ghost use Rattle.file_commands.specs.Events.{HasDone};
+ghost use Rattle.file_commands.specs.Events.{Closed, HasDone};
 ghost use Rattle.file_commands.specs.Runs.{EndsAt, EndsTask, EndsTaskOn, EndsTransferAt};
 ghost use Rattle.file_commands.specs.Tasks.{HasSession, IsOfTables, IsOfTwo, IsService};
 ghost use Rattle.file_commands.specs.Uses.{device_use, stream, views};
@@ -75,9 +75,11 @@ where
 
     ensures unput { ¬ IsOfTables task.entry → T.puts tables.new ≡ T.puts tables.old }
 {
-    let disk = devices.open(path_of(&task), access_for(&task))?;
+    let path = path_of(&task);
+    let access = access_for(&task);
+    let disk = devices.open(path, access)?;
     let (ended, disk) = perform(rt, disk, tables, task, out);
-    devices.close(disk);
+    take_back(devices, path, disk, is_kept(access, &ended));
     ended
 }
 
@@ -103,10 +105,17 @@ fn access_for(task: &Task<'_>) -> Access
     ensures { result ≡ access_of task.now }
 {
     match task {
-        Task::Format { .. } => Access::Anew,
+        Task::Format { is_new, .. } => format_access(*is_new),
         Task::Edit { .. } | Task::Serve { .. } => Access::ToChange,
         _ => Access::ToRead,
     }
+}
+
+// How `format` has its device: anew, or where nothing may stand yet.
+fn format_access(is_new: bool) -> Access
+    ensures { result ≡ cond is_new Access.Fresh Access.Anew }
+{
+    if is_new { Access::Fresh } else { Access::Anew }
 }
 
 // Does what a task asks for on its device, which is open.
@@ -131,7 +140,11 @@ where
     ensures unput { ¬ IsOfTables task.entry → T.puts tables.new ≡ T.puts tables.old }
 {
     match task {
-        Task::Format { device: _, nodes } => {
+        Task::Format {
+            device: _,
+            nodes,
+            is_new: _,
+        } => {
             let mut disk = disk;
             let ended = format_on(&mut disk, nodes, out);
             (ended, disk)
@@ -160,6 +173,32 @@ where
     }
 }
 
+// Whether a new device is of use when a command ended so. Where the output alone failed, it holds all.
+fn is_of_use(ended: &Result<Ended, Fault>) -> bool {
+    matches!(ended, Ok(_) | Err(Fault::Output))
+}
+
+// Whether a device that a command had so is kept when it ended so.
+fn is_kept(access: Access, ended: &Result<Ended, Fault>) -> bool {
+    access != Access::Fresh || is_of_use(ended)
+}
+
+// Whether the new device of a transfer stays. That of a migration does, whatever it holds.
+fn stays(transfer: Transfer, ended: &Result<Ended, Fault>) -> bool {
+    matches!(transfer, Transfer::Migration) || is_of_use(ended)
+}
+
+// Takes a device back, with its name where it isn't kept.
+fn take_back<F: Devices>(devices: &mut F, path: &str, device: F::Device, is_kept: bool)
+    ensures { F.events devices.new ≡ F.events devices.old ++ Closed device ∷ [] }
+{
+    if is_kept {
+        devices.close(device);
+    } else {
+        devices.discard(path, device);
+    }
+}
+
 // Makes a new device of an old one. The old one is opened first, and for reading alone.
 fn run_transfer<F: Devices, O: Write>(
     alloc: Global,
@@ -178,7 +217,7 @@ fn run_transfer<F: Devices, O: Write>(
             let mut to = to;
             let (ended, from) = transfer_on(alloc, transfer, from, &mut to, out);
             devices.close(from);
-            devices.close(to);
+            take_back(devices, new, to, stays(transfer, &ended));
             ended
         }
         Err(fault) => {

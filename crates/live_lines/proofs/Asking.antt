@@ -15,7 +15,7 @@ use Rattle.value_syntax.specs.Reading.{texts_of}
 use Rattle.value_syntax.specs.Scripts.{IsChange, words_of}
 use Rattle.live_lines.specs.declared.words.Word.{Word}
 use Rattle.live_lines.specs.declared.words.Word.TheVariants as word
-use Rattle.live_lines.specs.Lines.{AddressAsks, AsksBehind, AsksJust, EditAsks, IsAskedIn, IsFolder, IsNamed, IsOp, IsTicket, LacksOps, NoSessionAsks, NodeAsks, NotOpsAsks, ResumeAsks, RouteAsks, TablesAsks, BackupAsks, WordsAsk, edit_words, ticket_word, word_text}
+use Rattle.live_lines.specs.Lines.{AddressAsks, Asks, AsksBehind, AsksJust, EditAsks, IsFolder, IsNamed, IsOp, IsTicket, LacksOps, NoSessionAsks, NodeAsks, NotOpsAsks, ResumeAsks, RouteAsks, TablesAsks, BackupAsks, WordsAsk, edit_words, ticket_word, word_text}
 
 -- no number is written as `-`
 no_dash : (n : ℕ) → n < 2 ^ 64 → decimal n ≡ codes "-" → ⊥
@@ -302,11 +302,11 @@ nothing_asked editors words empty =
 -- ---- lines
 
 -- what is no text asks for nothing
-pub no_text : (editors : ℕ) (line : List ℕ) → (IsUtf8 line → ⊥) → IsAskedIn editors line NotUnderstood
+pub no_text : (editors : ℕ) (line : List ℕ) → (IsUtf8 line → ⊥) → AsksJust (Asks editors line) NotUnderstood
 no_text editors line not = inr (refl, λ other asks. not asks.0)
 
 -- a text asks for what its words ask for
-pub text_asked : (editors : ℕ) (line : List ℕ) (asked : Asked) → IsUtf8 line → AsksJust (WordsAsk editors (words_of line)) asked → IsAskedIn editors line asked
+pub text_asked : (editors : ℕ) (line : List ℕ) (asked : Asked) → IsUtf8 line → AsksJust (WordsAsk editors (words_of line)) asked → AsksJust (Asks editors line) asked
 text_asked editors line asked is (inl asks) = inl (is, asks)
 text_asked editors line asked is (inr none) = inr (none.0, λ other asks. none.1 other asks.1)
 

@@ -1,5 +1,5 @@
 -- What lines of a live service ask for.
-use Rattle.std.specs.Prelude.{◌≡◌, ◌≢◌, ◌⊎◌, ◌*◌, ◌<◌, ◌≤◌, ◌^◌, ℕ, Ok, Option, Some, None, List, [], ◌∷◌, All, IsTrue, codes, decimal, length, map}
+use Rattle.std.specs.Prelude.{◌≡◌, ◌≢◌, ◌⊎◌, ◌*◌, ◌-◌, ◌==◌, ◌<◌, ◌≤◌, ◌^◌, ℕ, Ok, Option, Some, None, List, [], ◌∷◌, All, IsTrue, codes, cond, decimal, length, map, slice_index, take}
 use Rattle.std.specs.Str.{IsUtf8}
 use Rattle.std.specs.String.{string_bytes}
 use Rattle.hex.specs.Hex.{decode_sized, is_hex_digit}
@@ -195,6 +195,14 @@ Asks editors line asked = IsUtf8 line × WordsAsk editors (words_of line) asked
 abbrev pub AsksJust : (Asked → Type 0) → Asked → Type 0
 AsksJust AsksFor asked = AsksFor asked ⊎ ((asked ≡ NotUnderstood) × ((other : Asked) → AsksFor other → ⊥))
 
+-- the byte in front of the line feed that some programs end lines with
+abbrev pub carriage_return : ℕ
+carriage_return = 13
+
+-- a line without it
+abbrev pub without_return : List ℕ → List ℕ
+without_return line = cond (slice_index line (length line - 1) == carriage_return) (take (length line - 1) line) line
+
 -- what a line asks for, exactly
 abbrev pub IsAskedIn : ℕ → List ℕ → Asked → Type 0
-IsAskedIn editors line asked = AsksJust (Asks editors line) asked
+IsAskedIn editors line asked = AsksJust (Asks editors (without_return line)) asked

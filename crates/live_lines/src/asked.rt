@@ -6,7 +6,7 @@ ghost use Rattle.value_syntax.specs.Scripts.{IsChange};
 ghost use Rattle.value_syntax.specs.Reading.{IfRead, Reads, ReadsPair, texts_of};
 ghost use Rattle.live_lines.specs.declared.asked.Asked.{Asked};
 ghost use Rattle.live_lines.specs.declared.words.Word.{Word};
-ghost use Rattle.live_lines.specs.Lines.{AddressAsks, AsksBehind, AsksJust, BackupAsks, HopAsks, IsAskedIn, IsNamed, IsOp, IsTicket, LacksOps, LaunchAsks, NodeAsks, RouteAsks, TablesAsks, WordsAsk, ticket_word};
+ghost use Rattle.live_lines.specs.Lines.{AddressAsks, Asks, AsksBehind, AsksJust, BackupAsks, HopAsks, IsAskedIn, IsNamed, IsOp, IsTicket, LacksOps, LaunchAsks, NodeAsks, RouteAsks, TablesAsks, WordsAsk, ticket_word, without_return};
 
 use crate::digits::{hop_of, launch_of};
 use crate::words::{Word, is_folder, word_in, words_in};
@@ -399,11 +399,30 @@ fn asked_by(alloc: Global, words: &[&str], editors: u8) -> Result<Asked, AllocEr
     }
 }
 
+/// A line without the carriage return at its end, where one stands there.
+fn without_return(line: &[u8]) -> &[u8]
+    ensures { result.now ≡ without_return line.now }
+{
+    let count = line.len();
+    if count > 0 && line[count - 1] == b'\r' {
+        &line[..count - 1]
+    } else {
+        line
+    }
+}
+
 /// What a line asks for, in a service with editors for the sessions from 0 on, so many. The line is what stands before its line
-/// feed. An `Err` means that memory was refused.
-#[tactic(auto, using(crate::proofs::Asking::no_text))]
+/// feed; a carriage return at its end doesn't count. An `Err` means that memory was refused.
 pub fn asked_in(alloc: Global, line: &[u8], editors: u8) -> Result<Asked, AllocError>
     ensures { IfOk result (IsAskedIn editors line.now) }
+{
+    asked_in_text(alloc, without_return(line), editors)
+}
+
+/// What the bytes of a line ask for.
+#[tactic(auto, using(crate::proofs::Asking::no_text))]
+fn asked_in_text(alloc: Global, line: &[u8], editors: u8) -> Result<Asked, AllocError>
+    ensures { IfOk result (AsksJust (Asks editors line.now)) }
 {
     let Ok(text) = str::from_utf8(line) else {
         return Ok(Asked::NotUnderstood);

@@ -8,7 +8,7 @@ use Rattle.checkpoint.specs.Whole.{StandsForNoneOr}
 use Rattle.checkpoint.specs.Written.{IsNowWritten}
 use Rattle.new_devices.specs.Events.{FileEvent, LetGo, Made}
 use Rattle.new_devices.specs.declared.refused.BackupRefused.{BackupRefused}
-use Rattle.new_devices.specs.declared.refused.BackupRefused.TheVariants.{FileExists, Unusable, Memory, Device}
+use Rattle.new_devices.specs.declared.refused.BackupRefused.TheVariants.{FileExists, Full, Unusable, Memory, Device}
 
 -- Between two values of a new device a store of a device that keeps the model and hasn't failed was written to it, and this came of that.
 pub record IsWritten {D N : Type 0} {V : _} (model : Ghosts N) (store : Store D V) (before after : N) (end : Result (Unit {0}) BackupRefused) : Type 0 where
@@ -31,5 +31,6 @@ pub record IsBackedUp {D N : Type 0} {V : _} (model : Ghosts N) (store : Store D
 -- What a backup did at a place of new devices that ended so: nothing where no device could be made.
 abbrev pub IsBackupEnd : {D N : Type 0} {V : _} → Ghosts N → Store D V → List ℕ → List (FileEvent N) → List (FileEvent N) → Result (Unit {0}) BackupRefused → Type 0
 IsBackupEnd model store path old new (Err FileExists) = new ≡ old
+IsBackupEnd model store path old new (Err Full) = new ≡ old
 IsBackupEnd model store path old new (Err Unusable) = new ≡ old
 IsBackupEnd model store path old new end = IsBackedUp model store path old new end

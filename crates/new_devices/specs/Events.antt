@@ -6,7 +6,7 @@ use Rattle.new_devices.specs.declared.make_log.Done.{Done}
 use Rattle.new_devices.specs.declared.make_log.Done.TheVariants as done
 use Rattle.new_devices.specs.declared.make_log.MakeLog.{MakeLog}
 use Rattle.new_devices.specs.declared.refused.BackupRefused.{BackupRefused}
-use Rattle.new_devices.specs.declared.refused.BackupRefused.TheVariants.{FileExists, Unusable, Memory, Device}
+use Rattle.new_devices.specs.declared.refused.BackupRefused.TheVariants.{FileExists, Full, Unusable, Memory, Device}
 
 -- a device was made by a path, and this is what it was then; or one was let go, and this is what that was then
 pub data FileEvent (D : Type 0) : Type 0 where
@@ -28,11 +28,12 @@ IsBlank len disk = IsTrue disk.keeps_model → (image : List ℕ) → MayLeave d
 
 -- why no device is made
 abbrev pub IsUnmade : BackupRefused → Type 0
-IsUnmade refused = (refused ≡ FileExists) ⊎ (refused ≡ Unusable)
+IsUnmade refused = (refused ≡ FileExists) ⊎ ((refused ≡ Full) ⊎ (refused ≡ Unusable))
 
 -- what is told of a backup that isn't there
 abbrev pub backup_refused_text : BackupRefused → List ℕ
 backup_refused_text FileExists = codes "file exists"
+backup_refused_text Full = codes "no space left"
 backup_refused_text Unusable = codes "device file cannot be used"
 backup_refused_text Memory = codes "out of memory"
 backup_refused_text Device = codes "device failed"

@@ -1,8 +1,8 @@
 //! A store's state, written to a new device.
-ghost use Rattle.std.specs.Prelude.{◌≡◌, ◌⊎◌, IfErr, length};
+ghost use Rattle.std.specs.Prelude.{◌≡◌, ◌⊎◌, ◌++◌, ◌∷◌, [], IfErr, length};
 ghost use Rattle.layout_2.specs.Layout.{device_len};
 ghost use Rattle.new_devices.specs.Backups.{IsBackupEnd, IsWritten};
-ghost use Rattle.new_devices.specs.Events.{IsBlank};
+ghost use Rattle.new_devices.specs.Events.{IsBlank, LetGo};
 
 use crate::place::NewDevices;
 use crate::refused::BackupRefused;
@@ -31,7 +31,7 @@ fn written<D: Disk, N: Disk>(
 /// Makes a device by a path where nothing stands, and writes what a store holds to it: the count, the network and the last ticket of
 /// each session, at this moment. The store and its device stay as they are.
 ///
-/// After `Memory` and `Device` the file stays, as no device or a whole one.
+/// What is refused leaves no file by the path, as far as the system takes its name away.
 #[tactic(auto, using(crate::proofs::Ends::unmade_end, crate::proofs::Ends::made_end))]
 pub fn backed_up<D: Disk, F: NewDevices>(
     alloc: Global,
@@ -43,6 +43,17 @@ pub fn backed_up<D: Disk, F: NewDevices>(
 {
     let mut device = devices.make(path, DEVICE_LEN)?;
     let end = written(alloc, store, &mut device);
-    devices.let_go(device);
+    take_back(devices, path, device, end.is_ok());
     end
+}
+
+// Takes a device back, with its name where it isn't whole.
+fn take_back<F: NewDevices>(devices: &mut F, path: &str, device: F::Device, is_whole: bool)
+    ensures { F.events devices.new ≡ F.events devices.old ++ LetGo device ∷ [] }
+{
+    if is_whole {
+        devices.let_go(device);
+    } else {
+        devices.discard(path, device);
+    }
 }

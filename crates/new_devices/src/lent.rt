@@ -31,4 +31,8 @@ impl<F: NewDevices> NewDevices for LentDevices<'_, F> {
     fn let_go(&mut self, device: F::Device) {
         self.devices.let_go(device);
     }
+
+    fn discard(&mut self, path: &str, device: F::Device) {
+        self.devices.discard(path, device);
+    }
 }

@@ -29,6 +29,13 @@ pub trait NewDevices {
     /// Takes a device back. Nothing can be done with it from then on.
     fn let_go(&mut self, device: Self::Device)
         ensures { events self.new ≡ events self.old ++ LetGo device ∷ [] };
+
+    /// The same with a device that holds nothing of use. Where devices have names, its name goes too.
+    fn discard(&mut self, _path: &str, device: Self::Device)
+        ensures { events self.new ≡ events self.old ++ LetGo device ∷ [] }
+    {
+        self.let_go(device);
+    }
 }
 
 /// Devices that are files of the system.
@@ -60,6 +67,7 @@ impl<R: Files<File = File>> NewDevices for SystemDevices<'_, R> {
         match DeviceFile::make_new(self.files, path, len) {
             Ok(device) => {
                 if device.len() != len {
+                    device.unname(self.files, path);
                     return Err(BackupRefused::Unusable);
                 }
                 self.done.made(path, &device);
@@ -72,6 +80,11 @@ impl<R: Files<File = File>> NewDevices for SystemDevices<'_, R> {
     fn let_go(&mut self, device: DeviceFile) {
         self.done.let_go(&device);
     }
+
+    fn discard(&mut self, path: &str, device: DeviceFile) {
+        device.unname(self.files, path);
+        self.let_go(device);
+    }
 }
 
 // Why no device is made where its file is refused.
@@ -80,6 +93,7 @@ fn unmade(refused: FileRefused) -> BackupRefused
 {
     match refused {
         FileRefused::Exists => BackupRefused::FileExists,
-        FileRefused::InUse | FileRefused::Unusable => BackupRefused::Unusable,
+        FileRefused::Full => BackupRefused::Full,
+        _ => BackupRefused::Unusable,
     }
 }

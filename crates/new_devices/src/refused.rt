@@ -10,6 +10,8 @@ use thiserror::Error;
 pub enum BackupRefused {
     /// Something stands by the path. Nothing was touched.
     FileExists,
+    /// The file system has no room for it.
+    Full,
     /// The system doesn't make, lock, fill or sync the file.
     Unusable,
     /// Memory ran out before anything was written to the device.
@@ -25,6 +27,7 @@ impl BackupRefused {
     {
         match self {
             BackupRefused::FileExists => "file exists",
+            BackupRefused::Full => "no space left",
             BackupRefused::Unusable => "device file cannot be used",
             BackupRefused::Memory => "out of memory",
             BackupRefused::Device => "device failed",

@@ -1,9 +1,11 @@
 -- What a table more keeps of a shelf.
-use Rattle.std.proofs.Common.{◌≡◌, inl, inr, ℕ, zero, suc, ◌-◌, ◌<◌, length, drop, Some, Result, Ok, Err, List, [], ◌∷◌, refl, sym, subst, arith, length-drop}
-use Rattle.std.specs.List.{All, AllPairs}
+use Rattle.std.proofs.Common.{◌≡◌, inl, inr, ℕ, zero, suc, ◌-◌, ◌<◌, length, drop, take, Some, Result, Ok, Err, List, [], ◌∷◌, refl, sym, subst, arith, length-drop}
+use Rattle.std.specs.List.{All, AllPairs, remove}
 use Rattle.std.proofs.lemmas.Bool.{cases_order, eq-eqb, lt-ltb, le-ltb, ne_eqb}
-use Rattle.std.proofs.lemmas.List.Elements.{All-nil, All-cons, All-head, All-tail, All-drop}
+use Rattle.std.proofs.lemmas.List.Elements.{All-nil, All-cons, All-head, All-tail, All-append, All-drop, All-take}
+use Rattle.std.proofs.lemmas.List.Edits.{length-remove}
 use Rattle.std.proofs.lemmas.List.Kept.{AllPairs-cons}
+use Rattle.std.proofs.lemmas.List.Quantifiers.{all_pairs_remove}
 use Rattle.router_table.specs.Table.{Table}
 use Rattle.std.specs.Prelude.{OnOk, OnErr}
 use Rattle.router_lines.specs.declared.shelf.LoadRefused.{LoadRefused}
@@ -83,3 +85,18 @@ module _ (a : Table) where
     node = All-cons (IsOf a.head.node) a [] refl (All-nil (IsOf a.head.node));
     older = λ i j d lt within. absurd (omega arith);
   }
+
+-- what holds of all holds of all but one
+all_removed : (P : Table → Type 0) (bs : List Table) (place : ℕ) → All P bs → All P (remove bs place)
+all_removed P bs place h = All-append P (take place bs) (drop (suc place) bs) (All-take P place bs h) (All-drop P (suc place) bs h)
+
+-- a shelf without one of several tables is one
+pub without_one : (s : Shelf) (place : ℕ) → IsShelf s → place < length s.tables → 1 < length s.tables → IsShelf (record { node = s.node; tables = remove s.tables place })
+without_one s place is within several =
+    let less = length-remove s.tables place within in
+    record {
+      some = omega (arith, less, several);
+      few = omega (arith, less, is.few);
+      node = all_removed (IsOf s.node) s.tables place is.node;
+      older = all_pairs_remove IsOlder s.tables place within is.older;
+    }

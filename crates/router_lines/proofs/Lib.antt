@@ -2,3 +2,4 @@ pub mod Fronts
 pub mod Keeping
 pub mod Placing
 pub mod Asking
+pub mod Numbers

@@ -1,6 +1,6 @@
 -- What a router answers to a line, and the text of an answer.
-use Rattle.std.specs.Prelude.{◌≡◌, ◌⊎◌, ◌-◌, ℕ, Result, Ok, Err, Option, Some, None, List, [], ◌∷◌, ◌++◌, codes, decimal, get_or, length}
-use Rattle.std.specs.List.{flat_map}
+use Rattle.std.specs.Prelude.{◌≡◌, ◌⊎◌, ◌-◌, ◌<◌, ℕ, Result, Ok, Err, Option, Some, None, List, [], ◌∷◌, ◌++◌, codes, decimal, get_or, length}
+use Rattle.std.specs.List.{flat_map, remove}
 use Rattle.schemes.specs.declared.packet.Address.{Address}
 use Rattle.schemes.specs.declared.packet.Packet.{Packet}
 use Rattle.schemes.specs.declared.packet.Move.{Move}
@@ -12,9 +12,9 @@ use Rattle.router_table.specs.Spelling.{SpellsTable}
 use Rattle.router_table.specs.Table.{Table, address_of}
 use Rattle.router_table.specs.declared.refused.ReadRefused.{ReadRefused}
 use Rattle.router_table.specs.declared.refused.ReadRefused.TheVariants.{NoTable, UnknownVersion, CutShort, TooLong, Damaged, NotInOrder, Memory as ReadMemory}
-use Rattle.router_lines.specs.Shelves.{IsLoaded, IsNotLoaded, Shelf, generations_of, table_in}
+use Rattle.router_lines.specs.Shelves.{IsLoaded, IsNotLoaded, Shelf, generations_of, place_in, table_in}
 use Rattle.router_lines.specs.declared.answer.Answer.{Answer}
-use Rattle.router_lines.specs.declared.answer.Answer.TheVariants.{Told, Sent, Moved, NotCarried, Gone, Unread, Listed, Loaded, NotRead, NotLoaded, NoFile, NotUnderstood}
+use Rattle.router_lines.specs.declared.answer.Answer.TheVariants.{Told, Sent, Moved, NotCarried, Gone, Unread, Listed, Loaded, Dropped, OnlyTable, NotRead, NotLoaded, NoFile, NotUnderstood}
 use Rattle.router_lines.specs.declared.line.Asked.{Asked}
 use Rattle.router_lines.specs.declared.line.Asked.TheVariants.{Address as WhereIs, Launch, Hop, Tables as WhichTables, Unread as Unspelled, NotUnderstood as Unknown}
 use Rattle.router_lines.specs.declared.shelf.LoadRefused.{LoadRefused}
@@ -63,6 +63,18 @@ IsLoadedBy old bytes new answer =
     × (((e : ReadRefused) × ((answer ≡ NotRead e) × IsRefusedFor bytes e))
     ⊎ ((a : Table) × ((e : LoadRefused) × (SpellsTable bytes a × ((answer ≡ NotLoaded e) × IsNotLoaded old a e))))))
 
+-- What a shelf answers where a generation is to be forgotten whose table stands at this place, if there is one, and what it is then: without
+-- that table; or as it was, where there is none, or no other.
+abbrev pub IsForgottenAt : Shelf → ℕ → Option ℕ → Shelf → Answer → Type 0
+IsForgottenAt old generation None new answer = (answer ≡ Gone) × (new ≡ old)
+IsForgottenAt old generation (Some place) new answer =
+    ((length old.tables ≡ 1) × ((answer ≡ OnlyTable) × (new ≡ old)))
+    ⊎ ((1 < length old.tables) × ((answer ≡ Dropped generation) × (new ≡ record { node = old.node; tables = remove old.tables place })))
+
+-- the same of the place at which its table stands
+abbrev pub IsForgotten : Shelf → ℕ → Shelf → Answer → Type 0
+IsForgotten old generation new answer = IsForgottenAt old generation (place_in old.tables generation) new answer
+
 -- ---- texts
 
 -- a number behind a comma
@@ -100,6 +112,8 @@ answer_text Gone = codes "generation gone"
 answer_text (Unread e) = unread_text e
 answer_text (Listed node generations) = codes "node=" ++ (decimal node ++ (codes " generations=" ++ listed_text generations.items))
 answer_text (Loaded generation) = codes "generation=" ++ decimal generation
+answer_text (Dropped generation) = codes "dropped generation=" ++ decimal generation
+answer_text OnlyTable = codes "only generation"
 answer_text (NotRead e) = read_text e
 answer_text (NotLoaded e) = load_text e
 answer_text NoFile = codes "file cannot be used"

@@ -26,6 +26,9 @@ hop_word = codes "hop "
 abbrev pub load_word : List ℕ
 load_word = codes "load "
 
+abbrev pub drop_word : List ℕ
+drop_word = codes "drop "
+
 -- why digits are those of no value: they are more or fewer, or their bytes are refused
 abbrev pub IsUnread : ℕ → (List ℕ → Option WireRefused) → List ℕ → WireRefused → Type 0
 IsUnread size refusal digits e =

@@ -1,5 +1,5 @@
 -- A router's shelf: the tables of its newest generations.
-use Rattle.std.specs.Prelude.{◌≡◌, ◌≢◌, ◌-◌, ◌==◌, ◌≤◌, ◌<◌, ℕ, cond, nat_lt, Option, Some, List, [], ◌∷◌, drop, get_or, length, map}
+use Rattle.std.specs.Prelude.{◌≡◌, ◌≢◌, ◌-◌, ◌==◌, ◌≤◌, ◌<◌, ℕ, cond, nat_lt, Option, Some, List, [], ◌∷◌, drop, get_or, length, map, position}
 use Rattle.std.specs.List.{All, AllPairs}
 use Rattle.router_table.specs.Items.{item_at}
 use Rattle.router_table.specs.Table.{Table}
@@ -48,6 +48,10 @@ newest tables = drop (length tables - most_tables) tables
 -- the table of a generation
 abbrev pub table_in : List Table → ℕ → Option Table
 table_in tables generation = item_at (λ a. a.head.generation) generation tables
+
+-- where the table of a generation stands
+abbrev pub place_in : List Table → ℕ → Option ℕ
+place_in tables generation = position (λ a. a.head.generation == generation) tables
 
 -- a table was put among others: it stands there, and the newest of all stay
 pub record IsPut (old : List Table) (a : Table) (new : List Table) : Type 0 where

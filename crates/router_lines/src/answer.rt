@@ -34,6 +34,10 @@ pub enum Answer {
     },
     /// The table of this generation was loaded.
     Loaded(u64),
+    /// The table of this generation was dropped.
+    Dropped(u64),
+    /// The only table stays.
+    OnlyTable,
     /// The bytes of a file are no table.
     NotRead(ReadRefused),
     /// A table isn't put on the shelf.
@@ -124,6 +128,8 @@ impl Answer {
                 format!(in alloc; "node={node} generations={numbers}")
             }
             Answer::Loaded(generation) => format!(in alloc; "generation={generation}"),
+            Answer::Dropped(generation) => format!(in alloc; "dropped generation={generation}"),
+            Answer::OnlyTable => String::from_str(alloc, "only generation"),
             Answer::NotRead(refused) => String::from_str(alloc, read_name(*refused)),
             Answer::NotLoaded(refused) => String::from_str(alloc, load_name(*refused)),
             Answer::NoFile => String::from_str(alloc, "file cannot be used"),

@@ -1,8 +1,9 @@
 //! What a router answers: a shelf of its newest tables, and an answer for each line.
 //!
 //! A [`Shelf`] keeps the tables of the newest four generations of one node, as the bytes of their files. A line asks for something
-//! ([`asked_in`]), and the shelf answers it ([`Shelf::answer`]); the line `load FILE` is told apart ([`file_in`]), since whoever opens
-//! files loads it ([`Shelf::load`]). An [`Answer`] is printed as one line ([`Answer::text`]):
+//! ([`asked_in`]), and the shelf answers it ([`Shelf::answer`]); the lines `load FILE` and `drop G` are told apart ([`file_in`],
+//! [`dropped_in`]), since they change the shelf: whoever opens files loads one ([`Shelf::load`]), and a generation is forgotten
+//! ([`Shelf::forget`]), unless it is the only one. An [`Answer`] is printed as one line ([`Answer::text`]):
 //!
 //! | Line | Answer |
 //! |---|---|
@@ -10,6 +11,7 @@
 //! | `launch ADDRESS` | `packet=` and 86 hex digits, or a refusal |
 //! | `hop PACKET` | `port=P next=Y packet=..`, `delivered`, or a refusal |
 //! | `load FILE` | `generation=G`, or why the file isn't loaded |
+//! | `drop G` | `dropped generation=G`, or why the table of generation G isn't dropped |
 //! | `tables` | `node=X generations=G,G`, the oldest first |
 //! | anything else | `not understood` |
 //!
@@ -23,5 +25,5 @@ mod line;
 mod shelf;
 
 pub use answer::Answer;
-pub use line::{Asked, asked_in, file_in};
+pub use line::{Asked, asked_in, dropped_in, file_in};
 pub use shelf::{LoadRefused, SHELF_SIZE, Shelf};

@@ -1,7 +1,8 @@
 // What a line asks for.
-ghost use Rattle.std.specs.Prelude.{◌≡◌, ◌≢◌, ◌++◌, MatchOption, ℕ, List};
-ghost use Rattle.router_lines.specs.Lines.{IsAskedIn, IsLaunch, IsHop, load_word};
+ghost use Rattle.std.specs.Prelude.{◌≡◌, ◌≢◌, ◌<◌, ◌^◌, ◌++◌, MatchOption, ℕ, List, decimal};
+ghost use Rattle.router_lines.specs.Lines.{IsAskedIn, IsLaunch, IsHop, drop_word, load_word};
 
+use itoa::Buffer;
 use packet_bytes::{ADDRESS_SIZE, HexError, PACKET_SIZE, Wire, WireRefused, bytes_in};
 use schemes::{Address, Packet};
 
@@ -41,6 +42,35 @@ pub fn file_in(line: &[u8]) -> Option<&[u8]>
         (λ file. line.now ≡ load_word ++ file.now) }
 {
     behind(line, b"load ")
+}
+
+/// The number of 64 bits that bytes are the plain decimal form of, without sign and leading zeros.
+fn number_in(digits: &[u8]) -> Option<u64>
+    ensures { MatchOption result ((number : ℕ) → number < 2 ^ 64 → digits.now ≢ decimal number) (λ number. digits.now ≡ decimal number) }
+{
+    let Ok(text) = str::from_utf8(digits) else {
+        return None;
+    };
+    let Ok(number) = text.parse::<u64>() else {
+        return None;
+    };
+    let mut buffer = Buffer::new();
+    if buffer.format(number) == text {
+        Some(number)
+    } else {
+        None
+    }
+}
+
+/// The generation that a line names behind `drop `.
+pub fn dropped_in(line: &[u8]) -> Option<u64>
+    ensures { MatchOption result ((generation : ℕ) → generation < 2 ^ 64 → line.now ≢ drop_word ++ decimal generation)
+        (λ generation. line.now ≡ drop_word ++ decimal generation) }
+{
+    match behind(line, b"drop ") {
+        Some(digits) => number_in(digits),
+        None => None,
+    }
 }
 
 /// What is asked for by the digits of an address.

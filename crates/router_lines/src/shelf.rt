@@ -1,9 +1,9 @@
 // The tables of a router's newest generations.
-ghost use Rattle.std.specs.Prelude.{◌≡◌, ◌-◌, ◌<◌, ◌≤◌, ◌↔◌, ◌∷◌, [], IfErr, IfOk, IsOk, IsTrue, OnErr, OnOk, length, slice_index_or};
+ghost use Rattle.std.specs.Prelude.{◌≡◌, ◌-◌, ◌<◌, ◌≤◌, ◌↔◌, ◌∷◌, [], IfErr, IfOk, IfSome, IsOk, IsTrue, OnErr, OnOk, length, slice_index_or};
 ghost use Rattle.std.specs.List.{insert, remove};
 ghost use Rattle.byte_forms.specs.Reading.{Finds};
-ghost use Rattle.router_lines.specs.Shelves.{IsAt, IsLoaded, IsNotLoaded, IsNotPut, IsPlaceOf, IsPut, generations_of, table_in};
-ghost use Rattle.router_lines.specs.Answers.{IsAnswerTo, IsLoadedBy, moved_by, newest_address, sent_by};
+ghost use Rattle.router_lines.specs.Shelves.{IsAt, IsLoaded, IsNotLoaded, IsNotPut, IsPlaceOf, IsPut, generations_of, place_in, table_in};
+ghost use Rattle.router_lines.specs.Answers.{IsAnswerTo, IsForgotten, IsLoadedBy, moved_by, newest_address, sent_by};
 
 use crate::answer::Answer;
 use crate::line::Asked;
@@ -137,6 +137,16 @@ fn put(tables: &mut Vec<TableFile>, table: TableFile) -> Result<(), LoadRefused>
     put_for_oldest(tables, place, table)
 }
 
+/// Where the table of a generation stands.
+fn place_of_generation(tables: &[TableFile], generation: u64) -> Option<usize>
+    ensures place { result ≡ place_in tables.now generation }
+    ensures within { IfSome result (λ place. place < length tables.now) }
+{
+    tables
+        .iter()
+        .position(|table| table.figures().generation == generation)
+}
+
 /// The table of a generation.
 fn table_of(tables: &[TableFile], generation: u64) -> Option<&TableFile>
     ensures { Finds (λ a. a.now) result (table_in tables.now generation) }
@@ -187,6 +197,21 @@ impl Shelf {
             Ok(()) => Answer::Loaded(generation),
             Err(refused) => Answer::NotLoaded(refused),
         }
+    }
+
+    /// Forgets the table of a generation, unless it is the only one.
+    #[tactic(auto, using(crate::proofs::Keeping::without_one))]
+    pub fn forget(&mut self, generation: u64) -> Answer
+        ensures { IsForgotten self.old generation self.new result }
+    {
+        let Some(place) = place_of_generation(self.tables.as_slice(), generation) else {
+            return Answer::Gone;
+        };
+        if self.tables.len() == 1 {
+            return Answer::OnlyTable;
+        }
+        let _forgotten = self.tables.remove(place);
+        Answer::Dropped(generation)
     }
 
     /// What the router answers.

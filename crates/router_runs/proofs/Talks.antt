@@ -1,5 +1,5 @@
 -- One line more is answered.
-use Rattle.std.proofs.Common.{arith, ◌≡◌, ◌∙◌, ◌<◌, ◌++◌, ◌∷◌, ℕ, List, [], Option, Some, None, IfSome, length, ap, refl, sym, subst, Result, Ok, Err, IfErr, IsErrAnd}
+use Rattle.std.proofs.Common.{arith, ◌≡◌, ◌∙◌, ◌<◌, ◌++◌, ◌∷◌, ℕ, List, [], Option, Some, None, IfSome, length, ap, refl, sym, subst, Result, Ok, Err, IfErr, IsErrAnd, inr}
 use Rattle.std.specs.List.{flat_map}
 use Rattle.std.specs.Io.KnownBytes.{Appends}
 use Rattle.std.proofs.KnownBytes.{Appends-nil, Appends-trans}
@@ -14,7 +14,7 @@ use Rattle.router_lines.specs.Shelves.{Shelf}
 use Rattle.router_lines.specs.declared.answer.Answer.{Answer}
 use Rattle.router_runs.specs.Faults.{IsOutputFault, LeavesOutput}
 use Rattle.router_runs.specs.Reads.{FileRead}
-use Rattle.router_runs.specs.Runs.{AnswersAll, AnswersSoFar, AnswersSome, AreAnswers, IsAnsweredNext, printed_text}
+use Rattle.router_runs.specs.Runs.{AnswersAll, AnswersSoFar, AnswersSome, AreAnswers, IsAnswered, IsAnsweredNext, printed_text}
 use Rattle.router_runs.specs.declared.talking.RunFault.{RunFault}
 use Rattle.router_runs.specs.declared.talking.RunFault.TheVariants.{Input, Output, Memory}
 
@@ -28,6 +28,10 @@ module _ (reads : List ℕ → FileRead → Type 0) where
   )
   answers_more bytes old (first ∷ answers) left mid answer new are some next =
       (are.0, (are.1.0, (are.1.1.0, answers_more (after_line bytes) are.1.0 answers left mid answer new are.1.1.1 some next)))
+
+  -- what is answered to a line that stands next is answered to the first line
+  pub answered_line : (bytes line : List ℕ) (old : Shelf) (answer : Answer) (new : Shelf) → IsNext bytes Line line → IsAnswered reads old line answer new → IsAnsweredNext reads old bytes answer new
+  answered_line bytes line old answer new is answered = inr (is.1, subst (λ (l : List ℕ). IsAnswered reads old l answer new) is.2 answered)
 
   -- nothing is answered yet
   pub so_far_none : (known : Option (List ℕ)) (shelf : Shelf) (out : Option (List ℕ)) → AnswersSoFar reads known shelf out known shelf out

@@ -1,11 +1,11 @@
 -- What a router answers to the lines of an input.
-use Rattle.std.specs.Prelude.{◌≡◌, ◌≢◌, ◌⊎◌, ◌<◌, ◌≤◌, ◌++◌, ◌∷◌, ℕ, List, [], Ok, Err, Option, IfSome, Some, length}
+use Rattle.std.specs.Prelude.{◌≡◌, ◌≢◌, ◌⊎◌, ◌<◌, ◌≤◌, ◌^◌, ◌++◌, ◌∷◌, ℕ, List, [], Ok, Err, Option, IfSome, Some, decimal, length}
 use Rattle.std.specs.List.{flat_map}
 use Rattle.std.specs.Io.KnownBytes.{Appends}
 use Rattle.input_lines.specs.Lines.{after_line, first_line, line_feed, longest_line}
 use Rattle.router_table.specs.declared.refused.ReadRefused.TheVariants.{TooLong as TooLongTable}
-use Rattle.router_lines.specs.Answers.{IsAnswerTo, IsLoadedBy, answer_text}
-use Rattle.router_lines.specs.Lines.{IsAskedIn, load_word}
+use Rattle.router_lines.specs.Answers.{IsAnswerTo, IsForgotten, IsLoadedBy, answer_text}
+use Rattle.router_lines.specs.Lines.{IsAskedIn, drop_word, load_word}
 use Rattle.router_lines.specs.Shelves.{Shelf}
 use Rattle.router_lines.specs.declared.answer.Answer.{Answer}
 use Rattle.router_lines.specs.declared.answer.Answer.TheVariants.{NoFile as CannotUse, NotRead, NotUnderstood}
@@ -25,11 +25,18 @@ IsLoadOf old (Err NoFile) answer new = (answer ≡ CannotUse) × (new ≡ old)
 abbrev pub Loads : (List ℕ → FileRead → Type 0) → Shelf → List ℕ → Answer → Shelf → Type 0
 Loads reads old file answer new = (read : FileRead) × (reads file read × IsLoadOf old read answer new)
 
--- what is answered to a line that isn't too long, and the shelf then: it loads the file that it names, or it asks and leaves the shelf
+-- a line names no generation to forget
+abbrev pub DropsNone : List ℕ → Type 0
+DropsNone line = (generation : ℕ) → generation < 2 ^ 64 → line ≢ drop_word ++ decimal generation
+
+-- what is answered to a line that isn't too long, and the shelf then: it loads the file that it names, or forgets the generation that it
+-- names, or it asks and leaves the shelf
 abbrev pub IsAnswered : (List ℕ → FileRead → Type 0) → Shelf → List ℕ → Answer → Shelf → Type 0
 IsAnswered reads old line answer new =
     ((file : List ℕ) × ((line ≡ load_word ++ file) × Loads reads old file answer new))
-    ⊎ (((file : List ℕ) → line ≢ load_word ++ file) × ((asked : Asked) × (IsAskedIn line asked × (IsAnswerTo old asked answer × (new ≡ old)))))
+    ⊎ (((generation : ℕ) × ((line ≡ drop_word ++ decimal generation) × IsForgotten old generation new answer))
+    ⊎ (((file : List ℕ) → line ≢ load_word ++ file)
+    × (DropsNone line × ((asked : Asked) × (IsAskedIn line asked × (IsAnswerTo old asked answer × (new ≡ old)))))))
 
 -- what is answered to the first line of bytes: one that is longer is not understood
 abbrev pub IsAnsweredNext : (List ℕ → FileRead → Type 0) → Shelf → List ℕ → Answer → Shelf → Type 0

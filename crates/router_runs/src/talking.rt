@@ -8,7 +8,7 @@ ghost use Rattle.router_runs.specs.Faults.{IsOutputFault, LeavesOutput};
 use crate::line_reader::LineReader;
 use crate::source::{TableSource, Unread};
 use input_lines::{NextLine, next_line};
-use router_lines::{Answer, Shelf, asked_in, file_in};
+use router_lines::{Answer, Shelf, asked_in, dropped_in, file_in};
 use router_table::ReadRefused;
 use std::alloc::{AllocError, Global};
 use std::io::{self, ErrorKind, Write};
@@ -56,7 +56,10 @@ fn answer_line<F: TableSource>(
 {
     match file_in(line) {
         Some(file) => load(alloc, shelf, files, file),
-        None => shelf.answer(&asked_in(line)),
+        None => match dropped_in(line) {
+            Some(generation) => shelf.forget(generation),
+            None => shelf.answer(&asked_in(line)),
+        },
     }
 }
 

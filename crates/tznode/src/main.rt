@@ -1,17 +1,19 @@
 //! The program `tznode`: a compact routing node on a device file.
 //!
-//! The whole program is one call, [`run_words_at`] of the crate `commands`, over the words, a reader and two writers; its page says
+//! A word that asks for help or for the version is answered from [`HELP`]. All else is one call, [`run_words_at`] of the crate `commands`, over the words, a reader and two writers; its page says
 //! what each command does and prints. `main` makes the call on the arguments and the standard streams, of which `serve` alone reads,
 //! and ends with the status that it answers. Words that can't be had end it with a fault, told on standard error as `tznode: TEXT`.
 //! Where standard error is a terminal, `tables` tells there now and then how many files were put.
 //!
 //! Before all that, `main` sees to it that no file gets the number of a standard stream that is closed. `serve` has standard
 //! input read by a thread of its own. A fault is the last thing that a command tells: then the input is called off, so a live
-//! service that failed doesn't wait for a line that may never come.
+//! service that failed doesn't wait for a line that may never come. What is suspect on its device is told before.
 #![tactic(auto)]
 
-use command_output::{Fault, tell};
-use commands::{reading_fault, run_words_at};
+use command_line::HELP;
+use command_output::{Fault, print_text, tell};
+use commands::{reading_fault, run_words_at, tell_suspects};
+use program_help::asked_text;
 use standard_streams::{InterruptibleInput, InterruptingWriter, hold_streams};
 use std::alloc::AllocError;
 use std::env;
@@ -32,6 +34,13 @@ fn main(rt: HostRuntime) -> ExitCode {
         Ok(words) => words,
         Err(error) => return ended_by(&rt, Fault::from(error)),
     };
+    match asked_text(rt.alloc(), &HELP, &words) {
+        Ok(None) => {}
+        Ok(Some(text)) => return printed(&rt, &text),
+        Err(error) => return ended_by(&rt, Fault::from(error)),
+    }
+    // This is no fault, so it goes past the writer that calls the input off.
+    tell_suspects(&rt, &words, &mut rt.stderr());
     let (mut input, interrupter) = match InterruptibleInput::new(rt, rt.alloc()) {
         Ok(both) => both,
         Err(error) => return ended_by(&rt, Fault::from(error)),
@@ -90,6 +99,14 @@ impl Shown<'_> {
         if self.was_shown {
             let _told = write!(self.rt.stderr(), "\x1b[K");
         }
+    }
+}
+
+// Prints what the program says of itself.
+fn printed(rt: &HostRuntime, text: &str) -> ExitCode {
+    match print_text(&mut rt.stdout(), text) {
+        Ok(()) => ExitCode::SUCCESS,
+        Err(fault) => ended_by(rt, fault),
     }
 }
 

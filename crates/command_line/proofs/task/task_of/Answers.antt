@@ -1,4 +1,4 @@
-use Rattle.std.proofs.Common.{rules, inl, inr, []}
+use Rattle.std.proofs.Common.{rules, ◌∙◌, sym, inl, inr, []}
 use Rattle.value_syntax.specs.declared.words.LandmarkWords.TheVariants.{Greatest}
 use Rattle.command_line.specs.Fields.{Landmarks, Ops}
 use Rattle.command_line.specs.Asked.{AreOpsGiven, AreWordsGiven, Lacks}
@@ -9,8 +9,8 @@ use Rattle.command_line.proofs.task.task_of.Goals as goal
 
 pub returns-in_ok-nodes : goal.returns-in_ok-nodes
 returns-in_ok-nodes c =
-    answered c.args.name.now (rows_in c.args.arguments.now) (Format c.in_ok-device.device c.in_ok-nodes.field-0) (search rules) tt
-    (c.in_ok-device.ensures.found, (c.in_ok-nodes.ensures.found, tt)) (c.in_ok-device.ensures.same, (c.in_ok-nodes.ensures.same, tt))
+    answered c.args.name.now (rows_in c.args.arguments.now) (Format c.in_ok-device.device c.in_ok-nodes.field-0 c.flag-is_new.result) (search rules) tt
+    (c.in_ok-device.ensures.found, (c.in_ok-nodes.ensures.found, (c.flag-is_new.ensures.value, tt))) (c.in_ok-device.ensures.same, (c.in_ok-nodes.ensures.same, (λ given is. c.flag-is_new.ensures.value ∙ sym is, tt)))
 
 pub returns-then-eq-2 : goal.returns-then-eq-2
 returns-then-eq-2 c =

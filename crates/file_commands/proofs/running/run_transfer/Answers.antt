@@ -14,9 +14,9 @@ pub returns-in-Ok : goal.returns-in-Ok
 returns-in-Ok g c =
     let from = c.in_ok-from.from in
     let to = c.in-Ok.to in
-    transferred_at g.F.Device.Disk (HasDone g.F.Devices.opened g.F.Devices.events c.args.devices.now c.close-in-Ok.new.self) c.args.transfer c.args.old.now c.args.new.now (stream g.O.Write.contents c.args.out.now c.transfer_on-ended.new.out) from to c.transfer_on-ended.result.1 c.transfer_on-ended.new.new c.transfer_on-ended.result.0
-    (both g.F.Devices.opened g.F.Devices.events c.args.devices.now c.open.new.self c.open-2.new.self c.close.new.self c.close-in-Ok.new.self c.args.old.now c.args.new.now from to c.transfer_on-ended.result.1 c.transfer_on-ended.new.new
-    c.in_ok-from.ensures.opened c.in-Ok.ensures.opened c.in_ok-from.ensures.listed c.in-Ok.ensures.listed c.close.ensures c.close-in-Ok.ensures)
+    transferred_at g.F.Device.Disk (HasDone g.F.Devices.opened g.F.Devices.events c.args.devices.now c.take_back.new.devices) c.args.transfer c.args.old.now c.args.new.now (stream g.O.Write.contents c.args.out.now c.transfer_on-ended.new.out) from to c.transfer_on-ended.result.1 c.transfer_on-ended.new.new c.transfer_on-ended.result.0
+    (both g.F.Devices.opened g.F.Devices.events c.args.devices.now c.open.new.self c.open-2.new.self c.close.new.self c.take_back.new.devices c.args.old.now c.args.new.now from to c.transfer_on-ended.result.1 c.transfer_on-ended.new.new
+    c.in_ok-from.ensures.opened c.in-Ok.ensures.opened c.in_ok-from.ensures.listed c.in-Ok.ensures.listed c.close.ensures c.take_back.ensures)
     c.transfer_on-ended.ensures
 
 pub returns-in-Err : goal.returns-in-Err
