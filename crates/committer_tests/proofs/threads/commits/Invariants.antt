@@ -1,6 +1,0 @@
-use Rattle.std.proofs.Common.{◌≡◌}
-use Rattle.committer.specs.CommitterWords.{posts_of}
-use Rattle.committer_tests.proofs.threads.commits.Given as goal
-
-abbrev pub invariant-loop : goal.invariant-loop
-invariant-loop g l = (posts_of l.committer).opening ≡ (posts_of l.fn.committer).opening

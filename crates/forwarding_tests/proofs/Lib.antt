@@ -1,4 +1,0 @@
-pub mod Posting
-mod Answering
-mod Knowing
-pub mod Missing

@@ -1,3 +1,0 @@
-pub mod InARow
-pub mod Answered
-pub mod Known

@@ -1,0 +1,2 @@
+mod Seating
+pub mod Posting

@@ -1,0 +1,14 @@
+use denote.Param.Send.{IsSend, IsSync, sendable}
+use Rattle.std.proofs.Crossing.{crosses}
+use Rattle.test_doubles.proofs.Sends.{hooked_send}
+use Rattle.test_service.specs.contracts.stage.Signs as signs
+use Rattle.test_service.proofs.stage.Play.script.Goals as goal
+
+signs_sync : IsSync signs.the_row
+signs_sync = search (crosses, sendable) depth 40
+
+signs_send : IsSend signs.the_row
+signs_send = search (crosses, sendable) depth 40
+
+pub run_script-status-requires-send-D : goal.run_script-status-requires-send-D
+run_script-status-requires-send-D g c κs within = search (crosses, sendable, hooked_send, signs_sync, signs_send) depth 60
