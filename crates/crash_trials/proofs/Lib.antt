@@ -1,2 +1,3 @@
+pub mod StopLemmas
 mod KindLemmas
 mod TrialLemmas

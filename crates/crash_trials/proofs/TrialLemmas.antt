@@ -7,7 +7,7 @@ use Rattle.disk_trait.specs.declared.memory.MemDisk.{MemDisk}
 use Rattle.disk_trait.specs.declared.plan.Plan.{Plan}
 use Rattle.disk_trait.specs.declared.plan.Plan.TheVariants.{Stop as StopPlan}
 use Rattle.life_chain.specs.declared.life.Life.{Life}
-use Rattle.crash_points.specs.declared.stops.Stop.{Stop}
+use Rattle.crash_trials.specs.declared.stops.Stop.{Stop}
 use Rattle.rehearsals.specs.declared.asked.Rehearsal.{Rehearsal}
 use Rattle.crash_trials.specs.declared.trial.StopFound.{StopFound}
 use Rattle.crash_trials.specs.Trials.{IsArmed, IsLivedTo, IsStopFound, armed_at, armed_with, planned}

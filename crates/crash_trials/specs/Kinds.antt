@@ -7,7 +7,7 @@ use Rattle.event_model.specs.declared.reply.Reply.TheVariants.{Memory, NotCommit
 use Rattle.event_model.specs.Answers.{number_of}
 use Rattle.life_chain.specs.declared.report.LifeReport.{LifeReport}
 use Rattle.life_chain.specs.declared.report.LivesReport.{LivesReport}
-use Rattle.crash_points.specs.declared.kinds.Kind.{Kind}
+use Rattle.crash_trials.specs.declared.kinds.Kind.{Kind}
 
 -- how many changes the commits with these replies answered Ok for
 abbrev pub accepted_by : List Reply → ℕ

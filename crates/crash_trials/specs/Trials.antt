@@ -9,13 +9,13 @@ use Rattle.disk_trait.specs.declared.plan.Plan.TheVariants as plans
 use Rattle.life_chain.specs.declared.life.Life.{Life}
 use Rattle.life_chain.specs.declared.report.LivesReport.{LivesReport}
 use Rattle.life_chain.specs.Words.{IsLeftByWord, any_word}
-use Rattle.crash_points.specs.declared.kinds.Kind.{Kind}
-use Rattle.crash_points.specs.declared.kinds.KindCount.{KindCount}
-use Rattle.crash_points.specs.declared.stops.Call.{Call}
-use Rattle.crash_points.specs.declared.watched.Watched.{Watched}
-use Rattle.crash_points.specs.Stops.{first_stops, stop_count}
-use Rattle.crash_points.specs.Tables.{IsTableOf, count_text}
-use Rattle.crash_points.specs.WatchedWords.{calls_made}
+use Rattle.crash_trials.specs.declared.kinds.Kind.{Kind}
+use Rattle.crash_trials.specs.declared.kinds.KindCount.{KindCount}
+use Rattle.crash_trials.specs.declared.stops.Call.{Call}
+use Rattle.crash_trials.specs.declared.watched.Watched.{Watched}
+use Rattle.crash_trials.specs.Stops.{first_stops, stop_count}
+use Rattle.crash_trials.specs.Tables.{IsTableOf, count_text}
+use Rattle.crash_trials.specs.WatchedWords.{calls_made}
 use Rattle.rehearsals.specs.declared.asked.Rehearsal.{Rehearsal}
 use Rattle.rehearsals.specs.Rehearsed.{IsReported}
 use Rattle.crash_trials.specs.declared.trial.StopFound.{StopFound}

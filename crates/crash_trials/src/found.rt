@@ -4,7 +4,7 @@ ghost use Rattle.std.specs.List.{list_all};
 ghost use Rattle.event_model.specs.Answers.{number_of};
 ghost use Rattle.crash_trials.specs.Kinds.{AreKept, IsKindOf, accepted_by, is_all_served, is_served, is_whole};
 
-use crash_points::Kind;
+use crate::kinds::Kind;
 use event_model::Reply;
 use group_commit::DeskRefused;
 use life_chain::{LifeReport, LivesReport};

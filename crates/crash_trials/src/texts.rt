@@ -4,8 +4,8 @@ ghost use Rattle.std.specs.List.{flat_map};
 ghost use Rattle.std.specs.String.{string_bytes};
 ghost use Rattle.crash_trials.specs.Trials.{IsTrialsText, count_line, head_line};
 
+use crate::kinds::{Kind, KindCount, table_of};
 use crate::trial::StopFound;
-use crash_points::{Kind, KindCount, table_of};
 use std::alloc::{AllocError, Global};
 
 /// The lines of these trials, of so many stops that there are.

@@ -7,8 +7,10 @@ ghost use Rattle.rehearsals.specs.Rehearsed.{IsOutOfRange};
 ghost use Rattle.crash_trials.specs.Trials.{AreCallsOf, AreCallsUnstopped, IsArmed, IsLivedTo, IsStopFound, IsTrialsText, IsTried};
 
 use crate::found::{is_whole, kind_of};
+use crate::kinds::Kind;
+use crate::stops::{Call, Stop, count_stops, stops_of};
 use crate::texts::trials_text;
-use crash_points::{Call, Kind, Stop, Watched, count_stops, stops_of};
+use crate::watched::Watched;
 use disk_trait::{Disk, MemDisk, Plan};
 use life_chain::{Life, lives_on};
 use rehearsals::{Rehearsal, RehearseRefused, formatted_device, run_lives};

@@ -1,71 +1,117 @@
-//! The figures of a device.
-ghost use Rattle.std.specs.Prelude.{◌≡◌, IfOk, IfErr, IsTrue, OnOk};
-ghost use Rattle.layout_2.specs.Loading.{IsRead, IsNotLoaded};
-ghost use Rattle.device_info.specs.Info.{IsInfoOf, held_after};
+//! The command `info`.
+ghost use Rattle.std.specs.Prelude.{◌≡◌, ◌≢◌, ◌≤◌, ◌++◌, IfErr, IfOk, IsTrue, OnOk, flat_map, string_bytes};
+ghost use Rattle.layout_2.specs.Loading.{IsRead};
+ghost use Rattle.device_suspects.specs.Suspects.{AreSuspects};
+ghost use Rattle.lab_parts.specs.Grammar.{IsCommandOf};
+ghost use Rattle.lab_parts.specs.Words.{rows_in};
+ghost use Rattle.device_info.specs.Commands.{DoesInfo, IsInfoRefused, IsUnseen, PrintsInfo, info_app, text_of_info};
+ghost use Rattle.device_info.specs.Lines.{info_lines};
+ghost use Rattle.device_info.specs.Present.{suspect_line};
 
+use crate::figures::{DeviceInfo, info_of};
+use crate::json::info_json;
+use crate::lines::info_text;
+use crate::refused::InfoRefused;
+use crate::suspects::{are_none, present_of, push_lines};
+use clap::{ArgMatches, Command};
+use device_suspects::{Suspect, Suspects, suspects_of};
 use disk_trait::Disk;
-use layout_2::{OpenRefused, load};
+use lab_parts::{PrintRefused, Sources, command, device, flag, given, is_given, print, told_of};
 use std::alloc::{AllocError, Global};
+use std::io::Write;
 
-/// A session that has a last ticket, with it.
-#[derive(Clone, Copy, Debug, PartialEq, Eq)]
-pub struct Held {
-    pub session: usize,
-    pub ticket: u64,
-}
-
-/// What a device holds.
-#[derive(Debug, PartialEq, Eq, Drop)]
-pub struct DeviceInfo {
-    /// The nodes of its network.
-    pub nodes: u16,
-    pub edges: usize,
-    /// The accepted changes.
-    pub count: u64,
-    /// The slot in use, 0 or 1.
-    pub slot: usize,
-    pub epoch: u64,
-    /// The accepted changes that stand in the journal behind the checkpoint in use.
-    pub since_checkpoint: u64,
-    /// How many bytes of the journal are left for records.
-    pub journal_room_left: usize,
-    /// The sessions that have a last ticket, in ascending order.
-    pub held: Vec<Held>,
-}
-
-// The sessions that have a last ticket.
-fn held_of(alloc: Global, tickets: &[u64]) -> Result<Vec<Held>, AllocError>
-    ensures { IfOk result (λ held. held.items ≡ held_after 0 tickets.now) }
+/// Its grammar.
+pub fn grammar<'a>(alloc: Global) -> Result<Command<'a>, AllocError>
+    ensures { IfOk result (λ command. IsCommandOf command info_app) }
 {
-    let mut held = Vec::new(alloc);
-    for session in 0..tickets.len() {
-        let ticket = tickets[session];
-        if ticket != 0 {
-            held.push(Held { session, ticket })?;
-        }
-    }
-    Ok(held)
+    let about = "Prints what a device holds, in a few figures";
+    let said = [device(), flag("json", "Prints an object of JSON")];
+    command(alloc, "info", about, &said)
 }
 
-/// What a device holds. It syncs, reads, and writes nothing.
-pub fn info_of<D: Disk>(alloc: Global, disk: &mut D) -> Result<DeviceInfo, OpenRefused>
-    ensures read { OnOk result (IsRead (D.view disk.old) (D.view disk.new)) }
-    ensures figures { IsTrue (D.view disk.old).keeps_model
-        → IfOk result (λ info. IsInfoOf info (D.view disk.old).content) }
-    ensures refused { IfErr result (IsNotLoaded (D.view disk.old) (D.view disk.new)) }
+/// Prints what the device that these matches name holds, and answers the exit status.
+pub fn run<R, O, E>(rt: &R, found: &ArgMatches<'_>, out: &mut O, err: &mut E) -> u8
+where
+    R: Sources + AllocGlobal,
+    O: Write,
+    E: Write,
+    ensures few { result ≤ 2 }
+    // 0 only where it was printed and no suspect is on the device, and 2 only where nothing was.
+    ensures printed { result ≡ 0 → DoesInfo
+        record { model = R.Device.Disk; opened = R.opened; closed = R.closed; stands = R.stands } (rows_in found.now)
+        record { contents = O.contents; before = out.old; after = out.new } }
+    ensures untouched { result ≡ 2 → out.new ≡ out.old }
 {
-    let loaded = load(alloc, disk)?;
-    let Ok(held) = held_of(alloc, &loaded.tickets) else {
-        return Err(OpenRefused::Memory);
+    let Some(path) = given(found, "device") else {
+        return 2;
     };
-    Ok(DeviceInfo {
-        nodes: loaded.graph.nodes(),
-        edges: loaded.graph.edges(),
-        count: loaded.count,
-        slot: loaded.slot,
-        epoch: loaded.epoch,
-        since_checkpoint: loaded.count.saturating_sub(loaded.base_count),
-        journal_room_left: loaded.journal.room_left(),
-        held,
-    })
+    let as_json = is_given(found, "json");
+    let mut device = match rt.open_to_read(path) {
+        Ok(device) => device,
+        Err(refused) => return told_of(err, path, refused),
+    };
+    let ended = info_on(rt.alloc(), &mut device, as_json, out);
+    rt.close(device);
+    match ended {
+        Ok(true) => 0,
+        Ok(false) => 1,
+        Err(refused) => refused.told(err, path),
+    }
+}
+
+/// Prints what a device holds, and what is on it that no crash leaves: lines, or an object of JSON. It answers whether there is none of these. The
+/// device is only read.
+pub fn info_on<D: Disk, O: Write>(
+    alloc: Global,
+    disk: &mut D,
+    as_json: bool,
+    out: &mut O,
+) -> Result<bool, InfoRefused>
+    ensures printed { IfOk result (λ is_sound. PrintsInfo as_json is_sound (D.view disk.old) (D.view disk.new)
+        record { contents = O.contents; before = out.old; after = out.new }) }
+    ensures refused { IfErr result (λ refused. IsInfoRefused (D.view disk.old) (D.view disk.new) refused) }
+    ensures untouched { IfErr result (λ refused. refused ≢ InfoRefused.Print PrintRefused.Output → out.new ≡ out.old) }
+{
+    let info = info_of(alloc, disk)?;
+    let suspects = seen_of(alloc, disk)?;
+    let found = present_of(alloc, &suspects)?;
+    let text = text_of(alloc, &info, &found, as_json)?;
+    print(out, text.as_bytes()).map_err(InfoRefused::Print)?;
+    Ok(are_none(&found))
+}
+
+// What is on a device that no crash leaves.
+fn seen_of<D: Disk>(alloc: Global, disk: &mut D) -> Result<Suspects, InfoRefused>
+    ensures read { OnOk result (IsRead (D.view disk.old) (D.view disk.new)) }
+    ensures seen { IsTrue (D.view disk.old).keeps_model
+        → IfOk result (λ suspects. AreSuspects suspects (D.view disk.old).content) }
+    ensures refused { IfErr result (λ refused. IsUnseen (D.view disk.old) (D.view disk.new) refused) }
+{
+    match suspects_of(alloc, disk) {
+        Ok(suspects) => Ok(suspects),
+        Err(refused) => Err(InfoRefused::Suspects(refused)),
+    }
+}
+
+fn text_of(
+    alloc: Global,
+    info: &DeviceInfo,
+    suspects: &[Suspect],
+    as_json: bool,
+) -> Result<String, AllocError>
+    ensures { IfOk result (λ text. string_bytes text ≡ text_of_info as_json info.now suspects.now) }
+{
+    if as_json {
+        info_json(alloc, info, suspects)
+    } else {
+        lines_of(alloc, info, suspects)
+    }
+}
+
+fn lines_of(alloc: Global, info: &DeviceInfo, suspects: &[Suspect]) -> Result<String, AllocError>
+    ensures { IfOk result (λ text. string_bytes text ≡ info_lines info.now ++ flat_map suspect_line suspects.now) }
+{
+    let mut text = info_text(alloc, info)?;
+    push_lines(&mut text, suspects)?;
+    Ok(text)
 }

@@ -1,10 +1,8 @@
-//! The lines of a device's figures.
-ghost use Rattle.std.specs.Prelude.{◌≡◌, ◌++◌, IfOk, OnOk};
-ghost use Rattle.std.specs.List.{flat_map};
-ghost use Rattle.std.specs.String.{string_bytes};
-ghost use Rattle.device_info.specs.Lines.{figure_line, figures_text, held_line, info_lines, journal_text, network_text, place_text};
+//! A device's figures, and their lines.
+ghost use Rattle.std.specs.Prelude.{◌≡◌, ◌++◌, IfOk, OnOk, false, flat_map, string_bytes};
+ghost use Rattle.device_info.specs.Lines.{figure_text, figures_text, held_line, info_lines, journal_text, network_text, place_text};
 
-use crate::info::{DeviceInfo, Held};
+use crate::figures::DeviceInfo;
 use std::alloc::{AllocError, Global};
 
 /// The figures, a `name=value` pair a line, and then a line for each session that has a last ticket.
@@ -12,64 +10,64 @@ pub fn info_text(alloc: Global, info: &DeviceInfo) -> Result<String, AllocError>
     ensures { IfOk result (λ text. string_bytes text ≡ info_lines info.now) }
 {
     let mut text = String::new(alloc);
-    push_figures(&mut text, info)?;
+    push_figures(&mut text, false, info)?;
     push_held(&mut text, &info.held)?;
     Ok(text)
 }
 
-// All lines but the tickets.
-fn push_figures(text: &mut String, info: &DeviceInfo) -> Result<(), AllocError>
-    ensures { OnOk result (string_bytes text.new ≡ string_bytes text.old ++ figures_text info.now) }
+/// Adds all figures but the tickets, as members of JSON or as lines.
+pub(crate) fn push_figures(
+    text: &mut String,
+    as_json: bool,
+    info: &DeviceInfo,
+) -> Result<(), AllocError>
+    ensures { OnOk result (string_bytes text.new ≡ string_bytes text.old ++ figures_text as_json info.now) }
 {
-    push_network(text, info)?;
-    push_place(text, info)?;
-    push_journal(text, info)
+    push_network(text, as_json, info)?;
+    push_place(text, as_json, info)?;
+    push_journal(text, as_json, info)
 }
 
-fn push_network(text: &mut String, info: &DeviceInfo) -> Result<(), AllocError>
-    ensures { OnOk result (string_bytes text.new ≡ string_bytes text.old ++ network_text info.now) }
+fn push_network(text: &mut String, as_json: bool, info: &DeviceInfo) -> Result<(), AllocError>
+    ensures { OnOk result (string_bytes text.new ≡ string_bytes text.old ++ network_text as_json info.now) }
 {
-    push_figure(text, "nodes", info.nodes as u64)?;
-    push_figure(text, "edges", info.edges as u64)?;
-    push_figure(text, "count", info.count)
+    push_figure(text, as_json, "nodes", info.nodes as u64)?;
+    push_figure(text, as_json, "edges", info.edges as u64)?;
+    push_figure(text, as_json, "count", info.count)
 }
 
-fn push_place(text: &mut String, info: &DeviceInfo) -> Result<(), AllocError>
-    ensures { OnOk result (string_bytes text.new ≡ string_bytes text.old ++ place_text info.now) }
+fn push_place(text: &mut String, as_json: bool, info: &DeviceInfo) -> Result<(), AllocError>
+    ensures { OnOk result (string_bytes text.new ≡ string_bytes text.old ++ place_text as_json info.now) }
 {
-    push_figure(text, "layout", 2)?;
-    push_figure(text, "slot", info.slot as u64)?;
-    push_figure(text, "epoch", info.epoch)
+    push_figure(text, as_json, "layout", 2)?;
+    push_figure(text, as_json, "slot", info.slot as u64)?;
+    push_figure(text, as_json, "epoch", info.epoch)
 }
 
-fn push_journal(text: &mut String, info: &DeviceInfo) -> Result<(), AllocError>
-    ensures { OnOk result (string_bytes text.new ≡ string_bytes text.old ++ journal_text info.now) }
+fn push_journal(text: &mut String, as_json: bool, info: &DeviceInfo) -> Result<(), AllocError>
+    ensures { OnOk result (string_bytes text.new ≡ string_bytes text.old ++ journal_text as_json info.now) }
 {
-    push_figure(text, "since_checkpoint", info.since_checkpoint)?;
-    push_figure(text, "journal_room_left", info.journal_room_left as u64)?;
+    let room = info.journal_room_left as u64;
+    push_figure(text, as_json, "since_checkpoint", info.since_checkpoint)?;
+    push_figure(text, as_json, "journal_room_left", room)?;
     Ok(())
 }
 
 // A figure's name and its number.
-fn push_figure(text: &mut String, name: &str, number: u64) -> Result<(), AllocError>
-    ensures { OnOk result (string_bytes text.new ≡ string_bytes text.old ++ figure_line name.now number) }
+fn push_figure(text: &mut String, as_json: bool, name: &str, number: u64) -> Result<(), AllocError>
+    ensures { OnOk result (string_bytes text.new ≡ string_bytes text.old ++ figure_text as_json name.now number) }
 {
-    writeln!(text, "{name}={number}")?;
-    Ok(())
+    match as_json {
+        true => write!(text, "\"{name}\":{number},"),
+        false => writeln!(text, "{name}={number}"),
+    }
 }
 
-fn push_held(text: &mut String, held: &[Held]) -> Result<(), AllocError>
+fn push_held(text: &mut String, held: &[(usize, u64)]) -> Result<(), AllocError>
     ensures { OnOk result (string_bytes text.new ≡ string_bytes text.old ++ flat_map held_line held.now) }
 {
-    for one in held {
-        push_one(text, *one)?;
+    for (session, ticket) in held {
+        writeln!(text, "session={session} ticket={ticket}")?;
     }
-    Ok(())
-}
-
-fn push_one(text: &mut String, one: Held) -> Result<(), AllocError>
-    ensures { OnOk result (string_bytes text.new ≡ string_bytes text.old ++ held_line one) }
-{
-    writeln!(text, "session={} ticket={}", one.session, one.ticket)?;
     Ok(())
 }

@@ -13,7 +13,7 @@
 //! A caller that reads line after line keeps `AreRead xs count left`: `count` lines of the bytes xs are read, and `left` is what is
 //! left. The lemmas of `proofs/LoopLemmas` step it: `none_read` begins it, `one_more` and `one_longer_more` go on, and `next_read` says
 //! that what is given is the line at place `count` of `lines_in xs`, or that `count` lines are all (`IsLineAt`); `known_none`,
-//! `known_more` and `known_next` say the same where it isn't said whether the bytes are known. `input_lines_tests` has such a loop.
+//! `known_more` and `known_next` say the same where it isn't said whether the bytes are known. `test_routers` has such a loop.
 //!
 //! ```text
 //! let mut line = Vec::new(alloc);

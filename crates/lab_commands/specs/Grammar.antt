@@ -1,11 +1,10 @@
 -- The program's grammar, as clap takes it.
 use Rattle.std.specs.Prelude.{List, [], ◌∷◌, codes, true}
 use Rattle.clap.specs.Simple.{App, new_app, on_top, with_subcommand}
-use Rattle.lab_figures.specs.Words.{info_app, journal_app, stats_app, time_app}
+use Rattle.crash_trials.specs.Words.{rehearse_app}
+use Rattle.device_info.specs.Commands.{info_app, journal_app}
 use Rattle.lab_landmarks.specs.Words.{landmarks_app}
-use Rattle.lab_names.specs.Words.{edit_app, route_app, show_app}
-use Rattle.lab_networks.specs.Words.{export_app, import_app}
-use Rattle.lab_rehearsals.specs.Words.{rehearse_app}
+use Rattle.network_load.specs.Commands.{grow_app, load_app}
 
 -- one of the commands has to be given, and the program's name is not among the words
 abbrev pub bare_app : App
@@ -18,6 +17,4 @@ with_commands app (command ∷ commands) = with_commands (with_subcommand app co
 
 -- the program's grammar: its commands, each with its words
 unfoldable pub program : App
-program =
-    with_commands bare_app (import_app ∷ export_app ∷ info_app ∷ journal_app ∷ stats_app ∷ show_app ∷ edit_app ∷ route_app
-    ∷ landmarks_app ∷ time_app ∷ rehearse_app ∷ [])
+program = with_commands bare_app (load_app ∷ grow_app ∷ info_app ∷ journal_app ∷ landmarks_app ∷ rehearse_app ∷ [])

@@ -1,8 +1,7 @@
 -- When a scheme keeps limits, by its largest table.
-use Rattle.std.proofs.Common.{ℕ, ◌≤◌, inl, inr, arith}
-use Rattle.std.specs.Prelude.{count_by}
+use Rattle.std.proofs.Common.{ℕ, ◌≤◌, inl, inr, arith, count_by}
 use Rattle.schemes.specs.declared.parts.Parts.{Parts}
-use Rattle.scheme_figures.specs.Sizes.{IsGreatestSize}
+use Rattle.lab_landmarks.specs.Sizes.{IsGreatestSize}
 use Rattle.landmark_choice.specs.declared.limits.Limits.{Limits}
 use Rattle.lab_landmarks.specs.Reports.{Keeps}
 

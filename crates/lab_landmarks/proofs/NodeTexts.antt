@@ -1,7 +1,5 @@
 -- Nodes in decimal, one behind the others.
-use Rattle.std.proofs.Common.{◌≡◌, ℕ, sym, ap, List, [], ◌∷◌, ◌++◌, append-nil}
-use Rattle.std.specs.Prelude.{decimal}
-use Rattle.std.specs.List.{flat_map}
+use Rattle.std.proofs.Common.{◌≡◌, ℕ, sym, ap, List, [], ◌∷◌, ◌++◌, append-nil, decimal, flat_map}
 use Rattle.value_syntax.specs.WordsText.{nodes_text}
 
 -- behind the first each has a comma before it

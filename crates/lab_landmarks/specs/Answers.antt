@@ -1,17 +1,12 @@
 -- What the command prints.
-use Rattle.std.specs.Prelude.{◌≡◌, ◌-◌, ℕ, Bool, true, false, not, Option, Some, None, List, [], ◌∷◌, ◌++◌, codes, cond, decimal, map}
-use Rattle.std.specs.List.{flat_map}
-use Rattle.std.specs.String.{string_bytes}
+use Rattle.std.specs.Prelude.{◌≡◌, ◌-◌, ℕ, Bool, true, false, not, Option, Some, None, List, [], ◌∷◌, ◌++◌, codes, cond, decimal, string_bytes}
 use Rattle.graph_edits.specs.Edges.{Network}
-use Rattle.figure_lines.specs.Figures.{figure_line, said}
 use Rattle.landmark_choice.specs.Choices.{IsChoice, IsFourRoots}
 use Rattle.landmark_choice.specs.declared.limits.Limits.{Limits}
 use Rattle.lab_landmarks.specs.Lines.{choice_text}
 use Rattle.lab_landmarks.specs.Reports.{IsReport}
-use Rattle.lab_landmarks.specs.declared.choosing.Answer.{Answer}
+use Rattle.lab_landmarks.specs.declared.choosing.Chosen.{Chosen}
 use Rattle.lab_landmarks.specs.declared.choosing.Wanted.{Wanted}
-use Rattle.lab_landmarks.specs.declared.chosen.Chosen.{Chosen}
-use Rattle.lab_landmarks.specs.declared.chosen.Chosen.TheVariants.{Kept, Over, Output, Memory}
 use Rattle.lab_landmarks.specs.declared.reports.Report.{Report}
 use Rattle.lab_parts.specs.Places.{OutputStep, Prints}
 
@@ -32,7 +27,7 @@ where_asked false text = []
 
 -- the lines of the figures
 abbrev pub figures_text : Report → List ℕ
-figures_text report = flat_map figure_line (map said report.figures.items)
+figures_text report = string_bytes report.figures
 
 -- what is printed of a choice and its report: the line of the landmarks, and the figures where they are asked for
 abbrev pub printed_text : Wanted → List ℕ → Report → List ℕ
@@ -60,21 +55,9 @@ pub record IsSaid (m : Network) (generation : ℕ) (wanted : Wanted) (text told 
   pub to_tell : told ≡ told_text wanted limits report
 
 -- an answer has these texts
-abbrev pub IsAnswer : Network → ℕ → Wanted → Answer → Type 0
-IsAnswer m generation wanted answer = IsSaid m generation wanted (string_bytes answer.text) (string_bytes answer.told) answer.is_kept
+abbrev pub IsAnswer : Network → ℕ → Wanted → Chosen → Type 0
+IsAnswer m generation wanted chosen = IsSaid m generation wanted (string_bytes chosen.text) (string_bytes chosen.told) chosen.is_kept
 
--- the text of a choice was printed, and the other one is to be told of it
-abbrev pub IsAnswered : Network → ℕ → Wanted → Bool → List ℕ → {W : Type 0} → OutputStep W → Type 0
-IsAnswered m generation wanted is_kept told out = (text : List ℕ) × IsSaid m generation wanted text told is_kept × Prints out text
-
--- What became of a choice: it was printed and keeps the limits, or doesn't; or the output failed; or memory ran out, and nothing was printed.
+-- the text of a choice was printed
 abbrev pub HasChosen : Network → ℕ → Wanted → {W : Type 0} → OutputStep W → Chosen → Type 0
-HasChosen m generation wanted out (Kept told) = IsAnswered m generation wanted true (string_bytes told) out
-HasChosen m generation wanted out (Over told) = IsAnswered m generation wanted false (string_bytes told) out
-HasChosen m generation wanted out Output = Unit {0}
-HasChosen m generation wanted out Memory = out.after ≡ out.before
-
--- a choice keeps the limits and was printed
-abbrev pub IsKept : Chosen → Type 0
-IsKept (Kept told) = Unit {0}
-IsKept other = ⊥
+HasChosen m generation wanted out chosen = IsAnswer m generation wanted chosen × Prints out (string_bytes chosen.text)

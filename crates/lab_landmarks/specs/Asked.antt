@@ -2,7 +2,8 @@
 use Rattle.std.specs.Prelude.{◌≡◌, ℕ, List, Option, Some, None, true, codes, decimal, option_map}
 use Rattle.clap.specs.Walk.{Row, Text, first_of}
 use Rattle.disk_trait.specs.Disk.{DiskView}
-use Rattle.lab_landmarks.specs.Answers.{IsAnswered}
+use Rattle.lab_landmarks.specs.Answers.{HasChosen}
+use Rattle.lab_landmarks.specs.declared.choosing.Chosen.{Chosen}
 use Rattle.lab_landmarks.specs.declared.choosing.Wanted.{Wanted}
 use Rattle.lab_parts.specs.Devices.{OfDevice}
 use Rattle.lab_parts.specs.Places.{OutputStep, Place}
@@ -36,12 +37,13 @@ pub record IsWanted (rows : List Row) (wanted : Wanted) : Type 0 where
 pub record PrintsChoiceFor (rows : List Row) (disk left : DiskView) {W : Type 0} (out : OutputStep W) : Type 0 where
   pub state : State
   pub wanted : Wanted
-  pub told : List ℕ
+  pub chosen : Chosen
   pub holds : Holds disk left state
   pub asked : IsWanted rows wanted
-  pub answered : IsAnswered state.graph state.count wanted true told out
+  pub kept : chosen.is_kept ≡ true
+  pub has : HasChosen state.graph state.count wanted out chosen
 
 -- what the command does where it ends with status 0: it prints a choice for the device that the words name
 abbrev pub DoesLandmarks : {D : Type 0} → Place D → List Row → {W : Type 0} → OutputStep W → Type 0
 DoesLandmarks place rows out =
-    OfDevice place.had place.closed rows (λ path disk left. PrintsChoiceFor rows (place.model.view disk) (place.model.view left) out)
+    OfDevice place.opened place.closed rows (λ path disk left. PrintsChoiceFor rows (place.model.view disk) (place.model.view left) out)

@@ -1,3 +1,5 @@
+pub mod Sizes
+pub mod Tables
 pub mod Reports
 pub mod Lines
 pub mod Answers

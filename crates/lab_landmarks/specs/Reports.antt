@@ -1,14 +1,13 @@
 -- What is told of chosen landmarks.
-use Rattle.std.specs.Prelude.{true, ◌≡◌, ◌↔◌, ◌<◌, ◌≤◌, ◌++◌, ℕ, List, codes, count_by, map}
+use Rattle.std.specs.Prelude.{true, ◌≡◌, ◌↔◌, ◌<◌, ◌≤◌, ◌++◌, ℕ, List, codes, count_by, string_bytes}
 use Rattle.graph_edits.specs.Edges.{Network}
 use Rattle.schemes.specs.declared.parts.Parts.{Parts}
 use Rattle.value_syntax.specs.Words.{AreDrawn, AreZeroAt, first_state}
 use Rattle.scheme_builds.specs.Schemes.{IsSchemeOf}
-use Rattle.scheme_figures.specs.Sizes.{IsGreatestSize, table_size}
-use Rattle.figure_lines.specs.Figures.{said}
-use Rattle.figure_lines.specs.Tables.{table_figures}
 use Rattle.landmark_choice.specs.declared.limits.Limits.{Limits}
 use Rattle.lab_landmarks.specs.declared.reports.Report.{Report}
+use Rattle.lab_landmarks.specs.Sizes.{IsGreatestSize, table_size}
+use Rattle.lab_landmarks.specs.Tables.{tables_text}
 
 -- no table of a scheme has more entries and members than it may have, and there are no more landmarks than there may be
 pub record Keeps (limits : Limits) (p : Parts) : Type 0 where
@@ -33,6 +32,6 @@ pub record IsReport (m : Network) (generation seed : ℕ) (nodes : List ℕ) (li
   pub after : Parts
   pub drawn : IsDrawn m generation seed before
   pub chosen : IsChosen m generation nodes after
-  pub figures : map said report.figures.items ≡ table_figures (codes "before") before ++ table_figures (codes "after") after
+  pub figures : string_bytes report.figures ≡ tables_text (codes "before") before ++ tables_text (codes "after") after
   pub greatest : IsGreatestSize after report.greatest
   pub kept : (report.is_kept ≡ true) ↔ Keeps limits after

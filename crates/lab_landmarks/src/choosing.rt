@@ -1,15 +1,12 @@
 // Landmarks that are chosen for a network, and printed.
-ghost use Rattle.std.specs.Prelude.{◌≡◌, ◌++◌, IfOk, OnOk, not};
+ghost use Rattle.std.specs.Prelude.{◌≡◌, ◌≢◌, ◌++◌, IfErr, IfOk, OnOk, not, string_bytes};
 ghost use Rattle.landmark_choice.specs.Choices.{IsChoice};
-ghost use Rattle.std.specs.String.{string_bytes};
 ghost use Rattle.lab_landmarks.specs.Answers.{AreLimits, HasChosen, IsAnswer, excess_text, where_asked};
 
-use crate::chosen::Chosen;
 use crate::lines::line_of;
 use crate::reports::{Asked, Report, report_of};
-use figure_lines::figures_text;
 use graph_edits::Graph;
-use lab_parts::print;
+use lab_parts::{PrintRefused, print};
 use landmark_choice::{Balls, Choice, Limits, Start, choose_best, choose_from, default_limit};
 use scheme_builds::workers_here;
 use std::alloc::AllocError;
@@ -32,16 +29,16 @@ pub struct Wanted {
     pub with_progress: bool,
 }
 
-/// What is printed of a choice, what is told of it, and whether it keeps the limits.
+/// What is printed of a choice, what is to be told of it, and whether it keeps the limits.
 #[derive(Drop)]
-struct Answer {
-    text: String,
-    told: String,
-    is_kept: bool,
+pub struct Chosen {
+    pub text: String,
+    pub told: String,
+    pub is_kept: bool,
 }
 
 /// Chooses landmarks for a network of this generation and prints them. What is to be told of them is answered; on `err` it is only told what
-/// is being done.
+/// is being done. Where memory ran out, also where a thread can't be made, nothing was printed.
 pub fn print_choice<R, O, E>(
     rt: &R,
     graph: &Graph,
@@ -49,27 +46,20 @@ pub fn print_choice<R, O, E>(
     wanted: Wanted,
     out: &mut O,
     err: &mut E,
-) -> Chosen
+) -> Result<Chosen, PrintRefused>
 where
     R: AllocGlobal + Threads + Wait + Sync,
     O: Write,
     E: Write,
-    ensures { HasChosen graph.now generation wanted
-        record { contents = O.contents; before = out.old; after = out.new } result }
+    ensures chosen { IfOk result (HasChosen graph.now generation wanted
+        record { contents = O.contents; before = out.old; after = out.new }) }
+    ensures untouched { IfErr result (λ refused. refused ≢ PrintRefused.Output → out.new ≡ out.old) }
 {
     let answer = answer_of(rt, graph, generation, wanted, err);
     progress(err, wanted, "");
-    let Ok(answer) = answer else {
-        return Chosen::Memory;
-    };
-    if let Err(_) = print(out, answer.text.as_bytes()) {
-        return Chosen::Output;
-    }
-    if answer.is_kept {
-        Chosen::Kept(answer.told)
-    } else {
-        Chosen::Over(answer.told)
-    }
+    let chosen = answer?;
+    print(out, chosen.text.as_bytes())?;
+    Ok(chosen)
 }
 
 fn limits_of(wanted: Wanted, nodes: u16) -> Limits
@@ -87,7 +77,7 @@ fn answer_of<R, E>(
     generation: u64,
     wanted: Wanted,
     err: &mut E,
-) -> Result<Answer, AllocError>
+) -> Result<Chosen, AllocError>
 where
     R: AllocGlobal + Threads + Wait + Sync,
     E: Write,
@@ -95,7 +85,7 @@ where
 {
     let limits = limits_of(wanted, graph.nodes());
     let workers = workers_here(rt, graph.nodes());
-    let choice = chosen(rt, graph, wanted, limits, workers, err)?;
+    let choice = choice_of(rt, graph, wanted, limits, workers, err)?;
     progress(err, wanted, "building the tables");
     let asked = Asked {
         nodes: &choice.nodes,
@@ -104,33 +94,39 @@ where
     };
     let report = report_of(rt, rt.alloc(), graph, generation, &asked, workers)?;
     let mut text = line_of(rt.alloc(), &choice.nodes)?;
-    let figures = figures_text(rt.alloc(), &report.figures)?;
-    let mut told = put_figures(&mut text, figures, wanted.with_figures)?;
+    let mut told = String::new(rt.alloc());
+    put_figures(
+        &mut text,
+        &mut told,
+        report.figures.as_str(),
+        wanted.with_figures,
+    )?;
     push_excess(&mut told, &report, limits)?;
-    Ok(Answer {
+    Ok(Chosen {
         text,
         told,
         is_kept: report.is_kept,
     })
 }
 
-// Puts figures behind a text where they are to stand there; else they are answered, to be told.
+// Puts figures behind the printed text where they are to stand there, and else behind what is told.
 fn put_figures(
     text: &mut String,
-    mut figures: String,
+    told: &mut String,
+    figures: &str,
     with_figures: bool,
-) -> Result<String, AllocError>
-    ensures text { OnOk result (string_bytes text.new ≡ string_bytes text.old ++ where_asked with_figures (string_bytes figures)) }
-    ensures told { IfOk result (λ told. string_bytes told ≡ where_asked (not with_figures) (string_bytes figures)) }
+) -> Result<(), AllocError>
+    ensures text { OnOk result (string_bytes text.new ≡ string_bytes text.old ++ where_asked with_figures figures.now) }
+    ensures told { OnOk result (string_bytes told.new ≡ string_bytes told.old ++ where_asked (not with_figures) figures.now) }
 {
     if with_figures {
-        text.push_str(figures.as_str())?;
-        figures.clear();
+        text.push_str(figures)
+    } else {
+        told.push_str(figures)
     }
-    Ok(figures)
 }
 
-fn chosen<R, E>(
+fn choice_of<R, E>(
     rt: &R,
     graph: &Graph,
     wanted: Wanted,

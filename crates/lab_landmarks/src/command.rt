@@ -1,5 +1,5 @@
 // The command `landmarks`.
-ghost use Rattle.std.specs.Prelude.{◌≡◌, ◌≤◌, IfOk, IfSome, decimal, option_map};
+ghost use Rattle.std.specs.Prelude.{◌≡◌, ◌↔◌, ◌≤◌, IfOk, IfSome, decimal, option_map, true};
 ghost use Rattle.clap.specs.Walk.{first_of};
 ghost use Rattle.lab_landmarks.specs.Asked.{DoesLandmarks, IsStart, IsWanted};
 ghost use Rattle.lab_landmarks.specs.Words.{landmarks_app};
@@ -7,12 +7,11 @@ ghost use Rattle.lab_parts.specs.Grammar.{IsCommandOf};
 ghost use Rattle.lab_parts.specs.Words.{rows_in};
 ghost use Rattle.value_syntax.specs.Reading.{IfRead};
 
-use crate::choosing::{Wanted, print_choice};
-use crate::chosen::Chosen;
+use crate::choosing::{Chosen, Wanted, print_choice};
 use clap::{ArgMatches, Command};
 use lab_parts::{
-    PrintRefused, Sources, command, device, flag, given, is_given, loaded_of, optional, told,
-    told_memory, told_of, usual, value,
+    Sources, command, device, flag, given, is_given, loaded_of, optional, told, told_memory,
+    told_of, usual, value,
 };
 use landmark_choice::Start;
 use std::alloc::{AllocError, Global};
@@ -54,7 +53,7 @@ where
     ensures few { result ≤ 2 }
     // 0 only where landmarks that keep the limits were printed, and 2 only where nothing was.
     ensures printed { result ≡ 0 → DoesLandmarks
-        record { model = R.Device.Disk; had = R.opened; closed = R.closed; stands = R.stands } (rows_in found.now)
+        record { model = R.Device.Disk; opened = R.opened; closed = R.closed; stands = R.stands } (rows_in found.now)
         record { contents = O.contents; before = out.old; after = out.new } }
     ensures untouched { result ≡ 2 → out.new ≡ out.old }
 {
@@ -72,28 +71,25 @@ where
     };
     let loaded = loaded_of(rt.alloc(), &mut device);
     rt.close(device);
-    match loaded {
-        Ok(loaded) => {
-            let chosen = print_choice(rt, &loaded.graph, loaded.count, wanted, out, err);
-            tell(&chosen, err);
-            chosen.status()
-        }
-        Err(fault) => told_of(err, path, fault),
+    let loaded = match loaded {
+        Ok(loaded) => loaded,
+        Err(fault) => return told_of(err, path, fault),
+    };
+    match print_choice(rt, &loaded.graph, loaded.count, wanted, out, err) {
+        Ok(chosen) => tell(&chosen, err),
+        Err(refused) => told(err, 1, refused),
     }
 }
 
-// Tells what became of a choice.
-fn tell<E: Write>(chosen: &Chosen, err: &mut E) {
-    match chosen {
-        Chosen::Kept(text) | Chosen::Over(text) => {
-            let _told = write!(err, "{text}");
-        }
-        Chosen::Output => {
-            let _status = told(err, 1, PrintRefused::Output);
-        }
-        Chosen::Memory => {
-            let _status = told_memory(err);
-        }
+// Tells of a choice that was printed, and answers the exit status.
+fn tell<E: Write>(chosen: &Chosen, err: &mut E) -> u8
+    ensures kept { (result ≡ 0) ↔ (chosen.now.is_kept ≡ true) }
+    ensures few { result ≤ 1 }
+{
+    let _told = write!(err, "{}", chosen.told);
+    match chosen.is_kept {
+        true => 0,
+        false => 1,
     }
 }
 

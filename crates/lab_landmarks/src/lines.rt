@@ -1,7 +1,5 @@
 // The line that names landmarks.
-ghost use Rattle.std.specs.Prelude.{◌≡◌, ◌++◌, ◌∷◌, [], IfOk, OnOk, decimal};
-ghost use Rattle.std.specs.List.{flat_map};
-ghost use Rattle.std.specs.String.{string_bytes};
+ghost use Rattle.std.specs.Prelude.{◌≡◌, ◌++◌, ◌∷◌, [], IfOk, OnOk, decimal, flat_map, string_bytes};
 ghost use Rattle.lab_landmarks.specs.Lines.{choice_text};
 
 use std::alloc::{AllocError, Global};

@@ -2,13 +2,13 @@
 ghost use Rattle.std.specs.Prelude.{◌≡◌, ◌↔◌, ◌<◌, All, IfOk, true};
 ghost use Rattle.landmark_choice.specs.Choices.{IsChoice};
 ghost use Rattle.lab_landmarks.specs.Reports.{IsChosen, IsDrawn, IsReport, Keeps};
-ghost use Rattle.scheme_figures.specs.Sizes.{IsGreatestSize};
+ghost use Rattle.lab_landmarks.specs.Sizes.{IsGreatestSize};
 
-use figure_lines::{Figure, table_figures_of};
+use crate::sizes::{greatest_size, landmark_count};
+use crate::tables::push_tables;
 use graph_edits::Graph;
 use landmark_choice::Limits;
 use scheme_builds::scheme_of_in_threads;
-use scheme_figures::{greatest_size, landmark_count};
 use schemes::Scheme;
 use std::alloc::{AllocError, Global};
 use std::sync::Wait;
@@ -26,8 +26,8 @@ pub struct Asked<'a> {
 /// What is told of them.
 #[derive(Drop)]
 pub struct Report {
-    /// The figures of the drawn landmarks, and then of the chosen ones.
-    pub figures: Vec<Figure>,
+    /// The lines of the drawn landmarks, and then of the chosen ones.
+    pub figures: String,
     /// The entries and members of the largest table of the chosen ones.
     pub greatest: u64,
     /// Whether they keep the limits.
@@ -49,11 +49,11 @@ pub fn report_of<R: Threads + Wait + Sync>(
         IsReport graph.now generation asked.now.seed asked.now.nodes.now asked.now.limits report) }
 {
     let drawn = drawn_scheme(rt, alloc, graph, generation, asked.seed, workers)?;
-    let mut figures = table_figures_of(alloc, "before", &drawn)?;
+    let mut figures = String::new(alloc);
+    push_tables(alloc, &mut figures, "before", &drawn)?;
     drop(drawn);
     let scheme = chosen_scheme(rt, alloc, graph, generation, asked.nodes, workers)?;
-    let mut after = table_figures_of(alloc, "after", &scheme)?;
-    figures.append(&mut after)?;
+    push_tables(alloc, &mut figures, "after", &scheme)?;
     let greatest = greatest_size(&scheme);
     Ok(Report {
         figures,

@@ -2,10 +2,10 @@
 use Rattle.std.specs.Prelude.{List}
 use Rattle.clap.specs.Simple.{App, new_app}
 use Rattle.clap.specs.Walk.{Rule, Text}
-use Rattle.command_line.specs.Grammar.{named_rule, option_rule, text_rule, texts_rule, with_rules}
+use Rattle.command_line.specs.Grammar.{named_rule, option_rule, text_rule, with_rules}
 pub use Rattle.command_line.specs.Grammar.{IsArgOf, IsCommandOf, flag_rule}
 use Rattle.lab_parts.specs.declared.words.Kind.{Kind}
-use Rattle.lab_parts.specs.declared.words.Kind.TheVariants.{Flag, Many, Needed, Value, Word}
+use Rattle.lab_parts.specs.declared.words.Kind.TheVariants.{Flag, Needed, Value, Word}
 use Rattle.lab_parts.specs.declared.words.Said.{Said}
 
 -- help has a name for the value
@@ -15,10 +15,6 @@ with_shown rule = record rule { value_names = 1 }
 -- `TEXT`, which has to be there
 abbrev pub word_rule : Text → Rule
 word_rule id = with_shown (text_rule id)
-
--- `TEXT..`: one word or more
-abbrev pub many_rule : Text → Rule
-many_rule id = with_shown (texts_rule id)
 
 -- `--ID TEXT`, which has to be there
 abbrev pub needed_rule : Text → Rule
@@ -31,7 +27,6 @@ value_rule id = with_shown (option_rule id)
 -- the rule of a word of this kind
 abbrev pub rule_as : Kind → Text → Rule
 rule_as Word id = word_rule id
-rule_as Many id = many_rule id
 rule_as Needed id = needed_rule id
 rule_as Value id = value_rule id
 rule_as Flag id = flag_rule id

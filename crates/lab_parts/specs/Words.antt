@@ -3,9 +3,6 @@ use Rattle.std.specs.Prelude.{◌≡◌, ◌↔◌, ℕ, Bool, List, Option, Non
 use Rattle.clap.specs.Walk.{Row, Text, first_of, rows_of}
 use Rattle.clap.specs.Words.{found_of}
 use Rattle.clap.specs.declared.parser.matches.ArgMatches.{ArgMatches}
-use Rattle.value_syntax.specs.WordsText.{words_text}
-use Rattle.value_syntax.specs.declared.words.LandmarkWords.{LandmarkWords}
-use Rattle.value_syntax.specs.declared.words.LandmarkWords.TheVariants.{Greatest}
 
 -- the words that were given, each with its texts
 abbrev pub rows_in : ArgMatches → List Row
@@ -19,8 +16,3 @@ IsFlag rows id is_set = IsTrue is_set ↔ (first_of id rows ≡ Some (codes "tru
 abbrev pub IsUsual : Option Text → ℕ → ℕ → Type 0
 IsUsual None usual n = n ≡ usual
 IsUsual (Some text) usual n = text ≡ decimal n
-
--- the landmark words that were given, and `none` where none were
-abbrev pub AreLandmarks : Option Text → LandmarkWords → Type 0
-AreLandmarks None words = words ≡ Greatest
-AreLandmarks (Some text) words = text ≡ words_text words

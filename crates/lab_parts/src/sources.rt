@@ -1,7 +1,8 @@
 //! Where the commands of the lab have devices and files.
-ghost use Rattle.std.specs.Prelude.{◌≡◌, ℕ, List, IfOk, Option, Some, option_map};
+ghost use Rattle.std.specs.Prelude.{◌≡◌, ℕ, List, IfOk, OnOk, Option, Some, option_map};
 ghost use Rattle.std.specs.String.{string_bytes};
 
+use crate::placing::{PutRefused, SystemFolder, put_over};
 use device_files::{DeviceFile, FileRefused};
 use disk_trait::Disk;
 use std::fs;
@@ -40,18 +41,14 @@ pub trait Sources {
         ensures { IfOk result (λ text. stands path.now (Some (string_bytes text))) };
 }
 
-/// Where a command also has a device to change it.
+/// Where a command also puts a new file.
 pub trait Places: Sources {
-    /// Of a path and a device: an opening to change it gave it, or it was made there.
-    ghost held: { List ℕ → Self.Device → Type 0 };
+    /// Of a path and bytes: a file with these bytes was put there, where nothing stood.
+    ghost puts: { List ℕ → List ℕ → Type 0 };
 
-    /// Opens the device of a path, to change it. No other command has it meanwhile.
-    fn open_to_change(&self, path: &str) -> Result<Self::Device, FileRefused>
-        ensures { IfOk result (λ device. held path.now device) };
-
-    /// Makes a device of so many zeros where nothing stands yet, to change it.
-    fn make_new(&self, path: &str, len: usize) -> Result<Self::Device, FileRefused>
-        ensures { IfOk result (λ device. held path.now device) };
+    /// Puts a new file with these bytes by a path where nothing stands: whoever looks there, also after a power cut, sees nothing or the whole file.
+    fn put_new(&self, path: &str, bytes: &[u8]) -> Result<(), PutRefused>
+        ensures { OnOk result (puts path.now bytes.now) };
 }
 
 impl Sources for HostRuntime {
@@ -88,16 +85,9 @@ impl Sources for HostRuntime {
 }
 
 impl Places for HostRuntime {
-    ghost use Rattle.device_files.specs.DeviceFiles.{lock_of};
-    ghost use Rattle.device_files.specs.declared.file.Lock.TheVariants.{Alone};
+    ghost puts = { λ path bytes. Unit {0} };
 
-    ghost held = { λ path device. lock_of device ≡ Alone };
-
-    fn open_to_change(&self, path: &str) -> Result<DeviceFile, FileRefused> {
-        DeviceFile::open(self, path)
-    }
-
-    fn make_new(&self, path: &str, len: usize) -> Result<DeviceFile, FileRefused> {
-        DeviceFile::make_new(self, path, len)
+    fn put_new(&self, path: &str, bytes: &[u8]) -> Result<(), PutRefused> {
+        put_over(self.alloc(), &SystemFolder::new(self), path, bytes)
     }
 }

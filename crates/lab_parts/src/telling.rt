@@ -1,5 +1,5 @@
 //! What commands print and tell.
-ghost use Rattle.std.specs.Prelude.{◌≡◌, IfErr, IfOk, IsErr, Ok, OnOk};
+ghost use Rattle.std.specs.Prelude.{◌≡◌, IfErr, OnOk};
 ghost use Rattle.command_output.specs.Printing.{PrintsText};
 
 use std::alloc::AllocError;
@@ -75,16 +75,4 @@ pub fn told_memory<E: Write>(err: &mut E) -> u8
     ensures { result ≡ 1 }
 {
     told(err, 1, "out of memory")
-}
-
-/// What was made. Where memory ran out that is told, and the exit status 1 answered.
-pub fn had<T, E: Write>(made: Result<T, AllocError>, err: &mut E) -> Result<T, u8>
-    ensures made { IfOk result (λ value. made ≡ Ok value) }
-    ensures none { IsErr result → IsErr made }
-    ensures err { IfErr result (λ status. status ≡ 1) }
-{
-    match made {
-        Ok(value) => Ok(value),
-        Err(_) => Err(told_memory(err)),
-    }
 }

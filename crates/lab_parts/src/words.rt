@@ -1,13 +1,13 @@
 //! How a command lists its words, and what it is given.
 ghost use Rattle.std.specs.Prelude.{◌≡◌, ◌≤◌, IfOk, IfSome, Some, codes, decimal, map, option_map};
-ghost use Rattle.clap.specs.Walk.{all_of, first_of, rule_of, texts};
+ghost use Rattle.clap.specs.Walk.{first_of, rule_of};
 ghost use Rattle.value_syntax.specs.Reading.{IfRead};
-ghost use Rattle.lab_parts.specs.Grammar.{IsArgOf, IsCommandOf, app_with, flag_rule, many_rule, needed_rule, rule_as, rule_for, value_rule, with_shown, word_rule};
-ghost use Rattle.lab_parts.specs.Words.{AreLandmarks, IsFlag, IsUsual, rows_in};
+ghost use Rattle.lab_parts.specs.Grammar.{IsArgOf, IsCommandOf, app_with, flag_rule, needed_rule, rule_as, rule_for, value_rule, with_shown, word_rule};
+ghost use Rattle.lab_parts.specs.Words.{IsFlag, IsUsual, rows_in};
 
 use clap::{Arg, ArgAction, ArgMatches, Command};
 use std::alloc::{AllocError, Global};
-use value_syntax::{LandmarkWords, landmark_words, number};
+use value_syntax::number;
 
 /// What is said of a word of a command.
 #[derive(Clone, Copy, Drop)]
@@ -24,8 +24,6 @@ pub struct Said<'a> {
 enum Kind {
     // A word that has to be there.
     Word,
-    // One word or more.
-    Many,
     // An option that takes a value, and has to be there.
     Needed,
     // An option that takes a value.
@@ -52,11 +50,11 @@ pub fn word<'a>(name: &'a str, shown: &'a str, help: &'a str) -> Said<'a>
     of_kind(Kind::Word, name, shown, help)
 }
 
-/// One word or more.
-pub fn many<'a>(name: &'a str, shown: &'a str, help: &'a str) -> Said<'a>
-    ensures { rule_for result ≡ many_rule name.entry.now }
+/// An option that takes a value, and has to be there.
+pub fn needed<'a>(name: &'a str, shown: &'a str, help: &'a str) -> Said<'a>
+    ensures { rule_for result ≡ needed_rule name.entry.now }
 {
-    of_kind(Kind::Many, name, shown, help)
+    of_kind(Kind::Needed, name, shown, help)
 }
 
 /// An option that takes a value.
@@ -78,14 +76,6 @@ pub fn device<'a>() -> Said<'a>
     ensures { rule_for result ≡ word_rule (codes "device") }
 {
     word("device", "DEVICE", "The file of a device")
-}
-
-/// The landmark words, which have to be there.
-pub fn landmarks<'a>() -> Said<'a>
-    ensures { rule_for result ≡ needed_rule (codes "words") }
-{
-    let help = "The landmarks: none, at:2,5 or draw:7";
-    of_kind(Kind::Needed, "words", "W", help)
 }
 
 /// The command of this name, with the words that are listed.
@@ -112,7 +102,6 @@ impl<'a> Said<'a> {
         let arg = Arg::new(alloc, self.name).help(self.help);
         match self.kind {
             Kind::Word => taken(arg, self.shown).required(true),
-            Kind::Many => taken(arg, self.shown).required(true).num_args(1..),
             Kind::Needed => taken(arg, self.shown).long(self.name).required(true),
             Kind::Value => taken(arg, self.shown).long(self.name),
             Kind::Flag => arg.long(self.name).action(ArgAction::SetTrue),
@@ -133,13 +122,6 @@ pub fn given<'a>(found: &ArgMatches<'a>, id: &str) -> Option<&'a str>
     ensures { option_map (λ text. text.now) result ≡ first_of id.now (rows_in found.now) }
 {
     found.get_str(id)
-}
-
-/// All texts that a word has.
-pub fn all_given<'a, 'b>(found: &'b ArgMatches<'a>, id: &str) -> Option<&'b [&'a str]>
-    ensures { option_map (λ all. texts all.now) result ≡ all_of id.now (rows_in found.now) }
-{
-    found.get_strs(id)
 }
 
 /// Whether a flag was given.
@@ -183,18 +165,5 @@ pub fn optional(
     match given(found, id) {
         Some(text) => Ok(number(alloc, text, most)?.map(|n| Some(n))),
         None => Ok(Some(None)),
-    }
-}
-
-/// The landmark words that are given, or `none`. None where they aren't understood.
-pub fn landmarks_in(
-    alloc: Global,
-    found: &ArgMatches<'_>,
-) -> Result<Option<LandmarkWords>, AllocError>
-    ensures { IfRead result (AreLandmarks (first_of (codes "words") (rows_in found.now))) }
-{
-    match given(found, "words") {
-        Some(text) => landmark_words(alloc, text),
-        None => Ok(Some(LandmarkWords::Greatest)),
     }
 }

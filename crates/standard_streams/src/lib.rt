@@ -9,7 +9,7 @@
 //! then. It owns the source and a few chunks, and nothing waits for it: it goes with the process. An [`InterruptingWriter`] ends an
 //! input with its first write.
 //!
-//! No contract says which bytes come, as of the standard input itself. `mailboxes_tests` has that they are the source's, in order.
+//! No contract says which bytes come, as of the standard input itself. `test_committer` has that they are the source's, in order.
 //!
 //! ```text
 //! let streams = hold_streams(&rt)?;                             // kept until the program ends

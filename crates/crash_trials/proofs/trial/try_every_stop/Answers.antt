@@ -1,7 +1,7 @@
 use Rattle.std.proofs.Common.{◌∙◌, ap}
 use Rattle.std.proofs.lemmas.List.Elements.{All-from_recursion, All-weaker, recursion_from_All}
 use Rattle.disk_trait.specs.contracts.memory.MemDiskDisk.TheImpl.{ghosts}
-use Rattle.crash_points.specs.Stops.{first_stops}
+use Rattle.crash_trials.specs.Stops.{first_stops}
 use Rattle.crash_trials.specs.Trials.{IsStopFound}
 use Rattle.crash_trials.proofs.TrialLemmas.{armed_alike, moved}
 use Rattle.crash_trials.proofs.trial.try_every_stop.Goals as goal

@@ -1,4 +1,4 @@
-use Rattle.std.proofs.Common.{◌≡◌, ◌∙◌, ap, refl, Bool, not, ℕ, List, ◌++◌}
+use Rattle.std.proofs.Common.{◌≡◌, ◌∙◌, ap, refl, Bool, not, ℕ, List, ◌++◌, rules, string_bytes}
 use Rattle.lab_landmarks.specs.Answers.{where_asked}
 use Rattle.lab_landmarks.proofs.choosing.answer_of.Goals as goal
 
@@ -13,7 +13,7 @@ told is_asked text front figures wanted excess is first next = is ∙ ap (λ t. 
 
 pub returns : goal.returns
 returns g c =
-    let figures = rw c.deref-3.ensures.value at c.in_ok-figures.ensures in
+    let figures : c.as_str.result.now ≡ string_bytes c.in_ok-report.report.figures = search rules in
     record {
       limits = c.limits_of-limits.result;
       nodes = c.in_ok-choice.choice.nodes.items;
@@ -22,6 +22,8 @@ returns g c =
       choice = c.in_ok-choice.ensures;
       is_report = rw c.deref.ensures.value at c.in_ok-report.ensures;
       kept = refl;
-      printed = whole c.args.wanted.with_figures _ _ _ _ _ c.in_ok-told.ensures.text (rw c.deref-2.ensures.value at c.in_ok-text.ensures) figures;
-      to_tell = told (not c.args.wanted.with_figures) _ _ _ _ _ c.in_ok-push_excess.ensures c.in_ok-told.ensures.told figures;
+      printed = whole c.args.wanted.with_figures _ _ _ _ _ c.in_ok-put_figures.ensures.text (rw c.deref-2.ensures.value at c.in_ok-text.ensures) figures;
+      to_tell =
+          told (not c.args.wanted.with_figures) _ _ _ _ _ c.in_ok-push_excess.ensures
+          (c.in_ok-put_figures.ensures.told ∙ ap (λ t. t ++ where_asked (not c.args.wanted.with_figures) c.as_str.result.now) c.new-told.ensures.bytes) figures;
     }

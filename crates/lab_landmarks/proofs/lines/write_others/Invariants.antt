@@ -1,7 +1,4 @@
-use Rattle.std.proofs.Common.{◌≡◌, ◌∷◌, ◌++◌, take}
-use Rattle.std.specs.Prelude.{decimal}
-use Rattle.std.specs.List.{flat_map}
-use Rattle.std.specs.String.{string_bytes}
+use Rattle.std.proofs.Common.{◌≡◌, ◌∷◌, ◌++◌, take, decimal, flat_map, string_bytes}
 use Rattle.lab_landmarks.proofs.lines.write_others.Given as goal
 
 abbrev pub invariant-loop-node : goal.invariant-loop-node

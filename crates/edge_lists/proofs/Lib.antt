@@ -1,4 +1,0 @@
-pub mod EdgeLemmas
-pub mod NameLemmas
-pub mod WrittenLemmas
-pub mod LinkedLemmas

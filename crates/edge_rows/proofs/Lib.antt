@@ -1,4 +1,0 @@
-pub mod RowLemmas
-pub mod WeightLemmas
-pub mod RecordLemmas
-pub mod ApartLemmas

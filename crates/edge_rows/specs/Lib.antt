@@ -1,4 +1,0 @@
-pub mod Labels
-pub mod Records
-pub mod Rows
-pub mod Reading

@@ -1,4 +1,0 @@
-pub mod Info
-pub mod Stats
-pub mod Recent
-pub mod Words

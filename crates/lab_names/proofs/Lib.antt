@@ -1,3 +1,0 @@
-pub mod Zipped
-pub mod Edited
-pub mod Routed

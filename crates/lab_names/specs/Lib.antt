@@ -1,4 +1,0 @@
-pub mod Edits
-pub mod Routes
-pub mod Shown
-pub mod Words

@@ -1,4 +1,0 @@
-pub mod Imported
-pub mod Leaves
-pub mod Order
-pub mod Limits

@@ -1,0 +1,5 @@
+pub mod Numbers
+pub mod Added
+pub mod Counting
+pub mod Images
+pub mod Beginnings

@@ -1,0 +1,4 @@
+pub mod Lists
+pub mod Networks
+pub mod Loads
+pub mod Commands

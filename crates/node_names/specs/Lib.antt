@@ -1,4 +1,0 @@
-pub mod Words
-pub mod NamedOps
-pub mod Texts
-pub mod Readings

@@ -1,7 +1,0 @@
-use Rattle.std.proofs.Common.{◌≡◌, ◌++◌, take}
-use Rattle.std.specs.String.{string_bytes}
-use Rattle.recent_changes.specs.Changes.{ops_text}
-use Rattle.recent_changes.proofs.changes.push_ops.Given as goal
-
-abbrev pub invariant-loop-op : goal.invariant-loop-op
-invariant-loop-op l = string_bytes l.text ≡ string_bytes l.initial.text ++ ops_text (take l.op-index l.ops)

@@ -1,2 +1,0 @@
-pub mod MeasureLemmas
-pub mod Sent

@@ -1,7 +1,0 @@
-use Rattle.std.proofs.Common.{◌≡◌, length}
-use Rattle.schemes.specs.Tables.{entries_at}
-use Rattle.scheme_figures.specs.Sizes.{each_node, size_of}
-use Rattle.scheme_figures.proofs.sizes.entry_counts.Given as goal
-
-abbrev pub invariant-loop-node : goal.invariant-loop-node
-invariant-loop-node l = l.sizes.items ≡ each_node (λ x. size_of (length (entries_at l.scheme x))) l.node

@@ -1,4 +1,0 @@
-pub mod Sizes
-pub mod Pairs
-pub mod Measures
-pub mod Stretches

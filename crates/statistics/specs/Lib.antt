@@ -1,3 +1,0 @@
-pub mod Decimals
-pub mod Places
-pub mod Spreads
