@@ -12,14 +12,16 @@ device=$folder/network
 words=draw:7 status=0
 
 # Two nodes more than the network's 30 have no edge, so some ways aren't there.
-[ -e "$device" ] || "$top/tzlab" import "$device" "$here/../routers/network.txt" --nodes 32
-"$top/tznode" tables "$device" "$folder/tables" --words "$words"
+# With FORWARD_UNPROVED=--unproved, as ./forward --unproved has it, nothing is proved of what is used here.
+program() { "$top/$1" ${FORWARD_UNPROVED:+"$FORWARD_UNPROVED"} "${@:2}"; }
+[ -e "$device" ] || program tzlab load "$device" "$here/../routers/network.txt" --nodes 32
+program tznode tables "$device" "$folder/tables" --words "$words"
 for from in {0..31}; do for to in {0..31}; do echo "$from $to"; done; done >"$folder/pairs"
 # shellcheck disable=SC2046
-"$top/tznode" route "$device" $(<"$folder/pairs") --words "$words" >"$folder/answers" || [ $? -eq 1 ]
+program tznode route "$device" $(<"$folder/pairs") --words "$words" >"$folder/answers" || [ $? -eq 1 ]
 paste -d ' ' "$folder/pairs" "$folder/answers" >"$folder/routes"
 
-archive=$("$top/forward" --library)
+archive=$("$top/forward" ${FORWARD_UNPROVED:+"$FORWARD_UNPROVED"} --library)
 cp "$archive" "$folder/libtz.a"
 
 # There is a compiler of this name, or it says that there is none.
@@ -38,11 +40,11 @@ if has cc C; then
     carry C "$folder/forward" "$folder/tables" "$folder/routes"
     carry 'C, a million packets' "$folder/forward" "$folder/tables"
 fi
-if has cc Python && has python3 Python; then
+if has cc Python && python=$("$top/python/find-python" ctypes); then
     cc -shared -o "$folder/libtz.so" -Wl,--whole-archive "$folder/libtz.a" -Wl,--no-whole-archive
-    export TZ_LIBRARY=$folder/libtz.so
-    carry Python python3 -B "$here/tz.py" "$folder/tables" "$folder/routes"
-    carry 'Python, a packet' python3 -B "$here/tz.py" "$folder/tables" 0 25
+    export HIZMORKE_LIBRARY=$folder/libtz.so PYTHONPATH=$top/python/src
+    carry Python "$python" -B "$here/forward.py" "$folder/tables" "$folder/routes"
+    carry 'Python, a packet' "$python" -B "$here/forward.py" "$folder/tables" 0 25
 fi
 if has rustc Rust; then
     rustc --edition 2021 -O -L "$folder" -o "$folder/tz" "$here/tz.rs"

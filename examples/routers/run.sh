@@ -68,7 +68,7 @@ tables() {
     "$top/tznode" tables "$device" "$folder/$1" --words "$words"
 }
 
-"$top/tzlab" import "$device" "$here/network.txt"
+"$top/tzlab" load "$device" "$here/network.txt"
 echo "-- a table for each router"
 tables first
 echo "-- packets"

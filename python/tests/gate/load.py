@@ -1,7 +1,8 @@
-"""Many clients of one tzgate, each judged by a model: what the tests of tzgate share.
+#!/usr/bin/env python3
+"""Many clients of one gate, each judged by a model: what the tests of the gate share.
 
 `load.py --hour`, or `load.py --seconds N`, runs 500 clients for so long, each at its ease, over the program that TZNODE names, with `tzlab` beside it or in TZLAB,
-else over a stand-in: see `Hour`.
+else over a stand-in: see `Hour`. With `--waiter` one more client sends `wait` all the time; with `--nodes N` the network has so many nodes.
 """
 import argparse
 import copy
@@ -28,17 +29,46 @@ from contextlib import suppress
 from pathlib import Path
 
 HERE = Path(__file__).resolve().parent
-GATE = HERE.parent / "tzgate"
 STAND_IN = HERE / "stand_in"
-PROGRAM = os.environ.get("TZNODE") or str(STAND_IN)
-IS_REAL = Path(PROGRAM).name != "stand_in"
-# It tells of devices; the stand-in does so itself.
-LABS = [Path(PROGRAM).with_name("tzlab"), HERE.parents[2] / "crates/tzlab/out/tzlab"] if IS_REAL else [PROGRAM]
-LAB = os.environ.get("TZLAB") or str(next(filter(os.path.exists, LABS), "tzlab"))
+GATE = [sys.executable, "-m", "hizmorke.gate"]
+SOURCES = {"PYTHONPATH": str(HERE.parents[1] / "src"), "PYTHONDONTWRITEBYTECODE": "1"}
 
 NODES = 640
 PATH = 64  # nodes 0 to 63 are a path whose edge from i to i + 1 has the weight i + 1; nobody edits it
+EDITED = PATH + 8 * 63  # behind the nodes that are edited; those from here on are a network that nobody edits
 SESSIONS = range(1, 64)
+
+
+class Programs:
+    """The program that the gate runs, and the one that tells of devices, which the stand-in does itself."""
+
+    def __init__(self, node, lab=None):
+        self.node = str(node)
+        self.is_real = Path(self.node).name != "stand_in"
+        labs = [Path(self.node).with_name("tzlab"), HERE.parents[2] / "crates/tzlab/out/tzlab"] if self.is_real else [self.node]
+        self.lab = str(lab or next(filter(os.path.exists, labs), "tzlab"))
+
+    def run(self, *words):
+        return subprocess.run([self.node, *map(str, words)], capture_output=True, text=True, timeout=300)
+
+    def tell(self, *words):
+        return subprocess.run([self.lab, *map(str, words)], capture_output=True, text=True, timeout=300)
+
+
+class Ground:
+    """What stands on a device before anybody edits it: the path, and with more nodes than 640 a drawn network behind the nodes that are edited."""
+
+    def __init__(self, nodes=NODES):
+        self.nodes, draw = nodes, random.Random(nodes)
+        self.edges = {(i, i + 1): i + 1 for i in range(min(PATH, nodes) - 1)}
+        self.changes = [f"add:{a}:{b}:{w}" for (a, b), w in self.edges.items()]
+        if nodes > NODES:
+            more = {(draw.randrange(EDITED, node), node): draw.randint(1, 99) for node in range(EDITED + 1, nodes)}
+            for _ in range(3 * (nodes - EDITED)):
+                more.setdefault(tuple(sorted(draw.sample(range(EDITED, nodes), 2))), draw.randint(1, 99))
+            ops = [f"add:{a}:{b}:{w}" for (a, b), w in more.items()]
+            self.changes += [" ".join(ops[k : k + 16]) for k in range(0, len(ops), 16)]
+            self.edges |= more
 
 
 def eventually(what, seconds=300):
@@ -52,30 +82,27 @@ def eventually(what, seconds=300):
     raise AssertionError(f"not within {seconds} seconds")
 
 
-def program(*words, of=PROGRAM):
-    return subprocess.run([of, *map(str, words)], capture_output=True, text=True, timeout=300)
-
-
-def a_device(folder, nodes=NODES):
-    """A device with the path on it."""
-    device = str(folder / "network")
-    assert program("format", device, nodes).returncode == 0
-    lines = "".join(f"edit 0 - add:{i}:{i + 1}:{i + 1}\n" for i in range(min(PATH, nodes) - 1))
-    command = [PROGRAM, "serve", device, "--words", "none", "--live", "--editors", "1"]
+def a_device(folder, programs, ground=None):
+    """A device with the ground on it."""
+    device, ground = str(folder / "network"), ground or Ground()
+    assert programs.run("format", device, ground.nodes).returncode == 0
+    lines = "".join(f"edit 0 - {change}\n" for change in ground.changes)
+    command = [programs.node, "serve", device, "--words", "none", "--live", "--editors", "1"]
     ran = subprocess.run(command, input=lines, capture_output=True, text=True, timeout=300)
-    assert ran.returncode == 0 and ran.stdout.count("accepted") == min(PATH, nodes) - 1, ran
+    assert ran.returncode == 0 and ran.stdout.count("accepted") == len(ground.changes), ran
     return device
 
 
 class Running:
     """A gate that runs."""
 
-    def __init__(self, folder, device, *words, listen=True, command=None, **more):
+    def __init__(self, folder, device, programs, *words, listen=True, command=GATE, **more):
         self.path, self.log_path = str(folder / "gate"), folder / "log"
-        words = ["--words", "none", "--program", PROGRAM, *(["--socket", self.path] if listen else []), *words]
+        words = ["--words", "none", "--program", programs.node, *(["--socket", self.path] if listen else []), *words]
+        more.setdefault("env", {**os.environ, **SOURCES})
         with open(self.log_path, "ab") as log:
             self.before = log.tell()
-            self.process = subprocess.Popen([*(command or [sys.executable, str(GATE)]), device, *map(str, words)], stdin=subprocess.DEVNULL, stderr=log, **more)
+            self.process = subprocess.Popen([*command, device, *map(str, words)], stdin=subprocess.DEVNULL, stderr=log, **more)
 
     def __enter__(self):
         return self
@@ -180,15 +207,15 @@ class Talk:
 class Model:
     """The edges of one session's own nodes, its last ticket, and how many changes were made."""
 
-    def __init__(self):
-        self.edges, self.ticket, self.made = {}, 0, 0
+    def __init__(self, nodes):
+        self.nodes, self.edges, self.ticket, self.made = nodes, {}, 0, 0
 
     def verdict(self, ops, ticket):
         """What becomes of a change under a ticket: None where it is made, or the operation and the code. Without a ticket it is only asked."""
         edges = dict(self.edges)
         for place, (kind, a, b, w) in enumerate(ops):
             pair = (min(a, b), max(a, b))
-            if b >= NODES:
+            if b >= self.nodes:
                 return place, 1
             if a == b:
                 return place, 2
@@ -226,6 +253,7 @@ class Talker:
     """A client that sends ahead, and judges each answer."""
 
     reads = True
+    waited = 0.0  # when its last `wait` was answered: what it sent before stood behind that
 
     def __init__(self, load, seed):
         self.load, self.draw = load, random.Random(seed)
@@ -346,7 +374,7 @@ class Reader(Talker):
         if kind < 5:
             return b"route %d %d" % (self.draw.randrange(PATH), self.draw.randrange(PATH)), self.judge_route
         if kind == 5:
-            return b"address %d" % self.draw.randrange(NODES + 100), self.judge_address
+            return b"address %d" % self.draw.randrange(self.load.ground.nodes + 100), self.judge_address
         if kind == 6:
             return b"resume %d" % self.draw.randrange(70), self.judge_resume
         if kind == 7:
@@ -356,13 +384,14 @@ class Reader(Talker):
         line, answer = self.draw.choice(
             [
                 (b"hop 7 0" + b"0" * self.draw.randrange(40), b"bad length"),
-                (b"route 1 %d" % self.draw.randrange(NODES, 65_536), b"no node"),
-                (b"route 1 %d" % self.draw.randrange(PATH, NODES), b"unreachable"),
+                (b"route 1 %d" % self.draw.randrange(self.load.ground.nodes, 65_536), b"no node"),
+                (b"route 1 %d" % self.draw.randrange(PATH, self.load.ground.nodes), b"unreachable"),
                 (b"edit %d - add:1:2:3" % session, b"not your session"),
                 (b"edit 0 1 cut:0:1", b"not your session"),
                 (b"hello !%d" % self.draw.randrange(9), b"not a name"),
                 (b"", b"not understood"),
-                (b"state\r", b"not understood"),
+                (b"state\0\r", b"not understood"),
+                (b"hop 7 0\r", b"bad length"),
                 (self.draw.randbytes(self.draw.randrange(1, 300)).replace(b"\n", b"\0"), b"not understood"),
                 (b"\0" * self.draw.randrange(1, 50), b"not understood"),
             ]
@@ -380,7 +409,7 @@ class Reader(Talker):
 
     def judge_address(self, line, answer):
         node = int(line.split()[1])
-        if node >= NODES:
+        if node >= self.load.ground.nodes:
             assert answer == b"no node", (line, answer)
         else:
             assert re.fullmatch(rb"generation=\d+ address=[0-9a-f]{16}%04x[0-9a-f]{64}" % node, answer), (line, answer)
@@ -409,12 +438,25 @@ class Deaf(Reader):
         return b"route 0 %d" % self.draw.randrange(PATH), self.judge_route
 
 
+class Waiter(Talker):
+    """Sends `wait` all the time, as fast as it is answered."""
+
+    def next(self):
+        return b"wait", self.judge_wait
+
+    def hear(self):
+        super().hear()
+        if not self.away and self.goes_on:
+            self.fill()
+            self.send()
+
+
 class Editor(Talker):
     """Edits nodes of its own by a name of its own, so that it knows what becomes of each edit; what has no answer it sends again, under the same ticket."""
 
     def __init__(self, load, seed, place):
         self.name, self.base = b"editor.%d" % place, PATH + 8 * place
-        self.model, self.session, self.sent_ticket, self.silent = Model(), None, 0, 0
+        self.model, self.session, self.sent_ticket, self.silent = Model(load.ground.nodes), None, 0, 0
         self.unsettled, self.again, self.holds, self.greets = [], deque(), False, False
         self.resent, self.has_news = set(), False  # tickets sent again since hello, and whether one of them got another answer than `already in` and `old ticket`
         self.changes, self.sent, self.counts = [], {}, {}  # what was made, in order; the text of each ticket's edit, and the count that it was answered
@@ -449,7 +491,7 @@ class Editor(Talker):
                 model.verdict(ops[-1:], 0)
             else:
                 odd = self.draw.random()
-                b = a if odd < 0.05 else NODES if odd < 0.1 else b
+                b = a if odd < 0.05 else self.load.ground.nodes if odd < 0.1 else b
                 ops.append((self.draw.choice(["add", "add", "set", "cut"]), a, b, 0 if odd > 0.95 else self.draw.randint(1, 1_000_000)))
         self.sent_ticket += self.draw.choice([1, 1, 1, 2, 5])
         return self.line_of((self.sent_ticket, ops))
@@ -520,14 +562,13 @@ class Editor(Talker):
         super().leave()
 
     def hand_over(self, other):
-        """It goes on with another client's connection, and that one with its own: so each client edits in its turn."""
+        """Another client goes on with its connection, and it goes on with a new one: the session goes with the name, and not with the connection."""
+        other.leave()
         for name in ("socket", "out", "rest", "number", "pending"):
-            mine, its = getattr(self, name), getattr(other, name)
-            setattr(self, name, its)
-            setattr(other, name, mine)
-        self.holds = self.greets = False
-        for talker in (self, other):
-            self.load.loop.modify(talker.socket, selectors.EVENT_READ, talker)
+            setattr(other, name, getattr(self, name))
+        other.away = other.halves = False
+        self.load.loop.modify(other.socket, selectors.EVENT_READ, other)
+        self.connect()
 
     def at(self, ticket, mark):
         """Its nodes where this was its last ticket, from a model of an earlier moment on: with what was made since then, and with what may have been made."""
@@ -570,8 +611,8 @@ class Load:
     pace = 0  # seconds between two moments of a talker; with 0 it sends what its window takes
     ends = 0  # the signal by which the gate is being ended
 
-    def __init__(self, gate, device):
-        self.gate, self.device = gate, device
+    def __init__(self, gate, device, programs, ground=None):
+        self.gate, self.device, self.programs, self.ground = gate, device, programs, ground or Ground()
         self.loop, self.talkers = selectors.DefaultSelector(), []
         self.answered = self.lost = self.kills = self.cuts = self.given_up = self.already = self.refused = self.refused_before = 0
         self.counts, self.owners = set(), {}
@@ -665,12 +706,13 @@ class Load:
         """A device holds the path, each acknowledged change once, none in part, and nothing else but changes that have no answer yet, each editor's in its order.
         All changes that were acknowledged at the marks are there, and of later ones those up to the device's count, which may be known."""
         path, (models, least) = path or self.device, marks or self.marks()
-        shown, said, journal = program("show", path), program("info", path, "--json", of=LAB), program("journal", path, of=LAB)
+        shown, said, journal = self.programs.run("show", path), self.programs.tell("info", path, "--json"), self.programs.tell("journal", path)
         assert not (shown.returncode or said.returncode or journal.returncode), (shown.stderr, said.stderr, journal.stderr)
         info = json.loads(said.stdout)
         tickets = {of["session"]: of["ticket"] for of in info["tickets"]}
-        assert tickets.pop(0) == PATH - 1 and least <= info["count"] == (count or info["count"]), (info, least, count)
-        made, want = PATH - 1, {(i, i + 1): i + 1 for i in range(PATH - 1)}
+        before = len(self.ground.changes)
+        assert tickets.pop(0) == before and least <= info["count"] == (count or info["count"]), (info, least, count)
+        made, want = before, dict(self.ground.edges)
         for editor, mark in models.items():
             ticket = tickets.pop(editor.session, 0)
             model = editor.at(ticket, mark)
@@ -697,7 +739,7 @@ class Load:
                 editor = self.owners[session]
                 assert editor.sent[ticket] == ops and editor.counts.get(ticket, number) == number, (row, editor.sent[ticket], editor.counts.get(ticket))
             else:
-                assert ops == f"add:{number - 1}:{number}:{number}", row
+                assert ops == self.ground.changes[number - 1], row
         return len(rows)
 
 
@@ -707,16 +749,18 @@ class Hour(Load):
 
     pace = 4.0
 
-    def __init__(self, seconds, seed):
-        self.folder = Path(tempfile.mkdtemp(prefix="tzgate-hour-"))
-        super().__init__(None, a_device(self.folder))
+    def __init__(self, seconds, seed, programs, nodes=NODES, waiter=False, calm=False):
+        self.folder, ground = Path(tempfile.mkdtemp(prefix="tzgate-hour-")), Ground(nodes)
+        super().__init__(None, a_device(self.folder, programs, ground), programs, ground)
+        self.waiter, self.calm = waiter, calm
         self.seconds, self.draw, self.order = seconds, random.Random(seed), itertools.count()
         self.did, self.kinds, self.times, self.memories = Counter(), Counter(), {}, []
         self.due, self.asked = [], {}
         self.start()
 
     def start(self):
-        self.gate = Running(self.folder, self.device)
+        # Some clients read nothing to the end, and aren't sent away for it.
+        self.gate = Running(self.folder, self.device, self.programs, "--idle", 0)
         self.gate.up()
         self.did["starts of the gate"] += 1
 
@@ -728,8 +772,12 @@ class Hour(Load):
         kind = line.split(b" ")[0].decode(errors="replace")
         kind = kind if kind in ("edit", "route", "wait", "state", "backup", "hello", "resume", "address") else "other"
         self.kinds[kind] += 1
-        if sent and not isinstance(talker, Deaf):
-            self.times.setdefault(kind, array("f")).append(time.monotonic() - sent)
+        now = time.monotonic()
+        if sent and not isinstance(talker, (Deaf, Waiter)):
+            behind = " behind its own wait" if kind != "wait" and sent < talker.waited else ""
+            self.times.setdefault(kind + behind, array("f")).append(now - sent)
+        if kind == "wait":
+            talker.waited = now
 
     def turn(self):
         now = time.monotonic()
@@ -787,7 +835,7 @@ class Hour(Load):
         found = re.fullmatch(rb"count=(\d+)", answer)
         assert found, (line, answer)
         rows = self.judge_device(path, self.asked.pop(path), int(found[1]))
-        assert rows == 0 or not IS_REAL, "a backup has a journal"
+        assert rows == 0 or not self.programs.is_real, "a backup has a journal"
         os.unlink(path)
         self.did["backups judged"] += 1
 
@@ -797,7 +845,7 @@ class Hour(Load):
         for path in set(self.asked) - waits:
             marks, kind = self.asked.pop(path), "no file"
             if os.path.exists(path):
-                shown = program("show", path)
+                shown = self.programs.run("show", path)
                 kind = "whole" if shown.returncode == 0 else "no device"
                 if shown.returncode == 0:
                     self.judge_device(path, marks)
@@ -857,7 +905,7 @@ class Hour(Load):
 
     def go(self):
         begun, self.begun, self.pace = os.times(), time.monotonic(), 1.0
-        for kind, many in ((Editor, 62), (Deaf, 4), (Reader, 434)):
+        for kind, many in ((Editor, 62), (Deaf, 4), (Reader, 434), (Waiter, int(self.waiter))):
             self.add(kind, many, self.draw.randrange(1 << 40))
         for talker in self.talkers:
             self.wake(talker)
@@ -866,6 +914,7 @@ class Hour(Load):
         self.begun, self.pace, at_all = time.monotonic(), Hour.pace, time.monotonic() - self.begun
         rows = [(1, self.hand_over), (2, self.cut_one), (5, self.half_line), (5, self.sample), (10, self.backup), (40, self.kill)]
         rows += [(500, lambda: self.restart(signal.SIGTERM)), (900, lambda: self.restart(signal.SIGKILL)), (60, self.progress)]
+        rows = [row for row in rows if not self.calm or row[1] in (self.hand_over, self.sample, self.progress)]
         events = [(min(mean, self.seconds / 4), next(self.order), call) for mean, call in rows]
         events = [(self.begun + mean * self.draw.uniform(0.5, 1.5), mean, order, call) for mean, order, call in events]
         heapq.heapify(events)
@@ -891,14 +940,15 @@ class Hour(Load):
 
     def figures(self, differences):
         silent = sum(editor.silent for editor in self.editors())
-        figure(f"{len(self.talkers)} clients, 62 names, {self.seconds} seconds: {self.answered} lines answered, {self.lost} told that they have no answer, {self.given_up} under way where a connection ended, besides those of 4 clients that never read")
+        figure(f"{len(self.talkers)} clients, 62 names, {self.ground.nodes} nodes, {self.seconds} seconds: {self.answered} lines answered, {self.lost} told that they have no answer, {self.given_up} under way where a connection ended, besides those of 4 clients that never read")
         figure(f"edits: {len(self.counts)} accepted, {silent} made without an answer, {self.refused} refused, {self.already} already in, {self.refused_before} old tickets")
         figure("lines: " + ", ".join(f"{kind} {many}" for kind, many in sorted(self.kinds.items())))
         figure(f"kills of the service: {self.kills}; connections cut in the middle of a line: {self.cuts}")
         for what, many in sorted(self.did.items()):
             figure(f"{what}: {many}")
-        for kind, times in sorted(self.times.items()):
-            times = sorted(times)
+        others = [time for kind, times in self.times.items() if "wait" not in kind for time in times]
+        for kind, times in [*sorted(self.times.items()), ("all but those of and behind a wait", others)]:
+            times = sorted(times) or [0]
             figure(f"milliseconds to an answer, {kind}: median {1e3 * times[len(times) // 2]:.1f}, 99 in 100 {1e3 * times[len(times) * 99 // 100]:.1f}, greatest {1e3 * times[-1]:.0f}")
         window, medians = min(600, self.seconds / 2), []
         for place in range(int(self.seconds / window)):
@@ -924,10 +974,14 @@ def main():
     parser.add_argument("--hour", dest="seconds", action="store_const", const=3_600)
     parser.add_argument("--seconds", type=int)
     parser.add_argument("--seed", type=int, default=1)
+    parser.add_argument("--waiter", action="store_true", help="one more client sends wait all the time")
+    parser.add_argument("--nodes", type=int, default=NODES, help="of the network, 640 or more")
+    parser.add_argument("--calm", action="store_true", help="nothing is killed, cut or backed up")
     words = parser.parse_args()
     if not words.seconds:
         parser.error("--hour, or --seconds N")
-    hour, differences = Hour(words.seconds, words.seed), 0
+    programs = Programs(os.environ.get("TZNODE") or STAND_IN, os.environ.get("TZLAB"))
+    hour, differences = Hour(words.seconds, words.seed, programs, words.nodes, words.waiter, words.calm), 0
     try:
         hour.go()
     except Exception:
