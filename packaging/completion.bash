@@ -1,9 +1,10 @@
-# Completion for bash: the commands, options, files and folders of tznode, tzlab and tzrouter.
+# Completion for bash: the commands, options, files and folders of tznode, tzlab, tzrouter and hizmorke.
 
 # The options of a command, and what its words are: file, folder, op, or number; the last kind is that of all further words too.
 _tz_grammar() {
     case $1 in
-    tznode:format | tznode:resume) options='' words='file number' ;;
+    tznode:format) options='--new' words='file number' ;;
+    tznode:resume) options='' words='file number' ;;
     tznode:edit) options='--session --ticket' words='file op' ;;
     tznode:show) options='' words='file' ;;
     tznode:route) options='--words' words='file number' ;;
@@ -11,17 +12,27 @@ _tz_grammar() {
     tznode:tables) options='--words --node' words='file folder' ;;
     tznode:serve) options='--words --editors --forwarders --queue --live --rounds' words='file' ;;
     tznode:migrate | tznode:copy) options='' words='file file' ;;
-    tzlab:import) options='--as --update --least --scale --names --header --no-header --nodes' words='file file' ;;
-    tzlab:export) options='--as --words' words='file' ;;
-    tzlab:show) options='' words='file' ;;
-    tzlab:edit) options='--session --ticket' words='file op' ;;
-    tzlab:route) options='--words' words='file number' ;;
+    tzlab:load) options='--nodes' words='file file' ;;
+    tzlab:grow) options='--nodes' words='file file' ;;
     tzlab:info) options='--json' words='file' ;;
-    tzlab:stats) options='--words --pairs --seed --by-node --csv --json' words='file' ;;
     tzlab:landmarks) options='--seed --start --most-entries --most --figures' words='file' ;;
-    tzlab:time) options='--words --runs --json' words='file' ;;
     tzlab:journal) options='--last' words='file' ;;
     tzlab:rehearse) options='--every-stop --most' words='file' ;;
+    hizmorke:import)
+        options='--as --update --least --scale --weight --columns --delimiter --undirected --names --header --no-header --nodes --grow'
+        words='file file'
+        ;;
+    hizmorke:export) options='--as --words' words='file' ;;
+    hizmorke:show) options='' words='file' ;;
+    hizmorke:edit) options='--session --ticket' words='file op' ;;
+    hizmorke:route) options='--words' words='file number' ;;
+    hizmorke:stats) options='--words --pairs --seed --by-node --csv --json' words='file' ;;
+    hizmorke:plot) options='--words --out' words='kind file' ;;
+    hizmorke:time) options='--words --runs --json' words='file' ;;
+    hizmorke:gate)
+        options='--words --socket --mode --tcp --metrics --program --clients --unanswered --idle --names --forget --token --backups --tables'
+        words='file'
+        ;;
     *) return 1 ;;
     esac
 }
@@ -34,8 +45,9 @@ _tz() {
         options=--help kind=file
     elif [ "$COMP_CWORD" -eq 1 ]; then
         case $program in
-        tznode) list='format edit show resume route check tables serve copy migrate' ;;
-        tzlab) list='import export show edit route info stats landmarks time journal rehearse help --help' ;;
+        tznode) list='format edit show resume route check tables serve copy migrate help --help --version' ;;
+        tzlab) list='load grow info landmarks journal rehearse help --help' ;;
+        hizmorke) list='import export stats show edit route plot time gate help --help' ;;
         esac
     else
         _tz_grammar "$program:${COMP_WORDS[1]}" || return 0
@@ -45,7 +57,7 @@ _tz() {
             word=${COMP_WORDS[k]}
             if [ "$word" = : ] || [ "${COMP_WORDS[k - 1]}" = : ]; then continue; fi
             case $word in
-            --live | --names | --header | --no-header | --least | --update | --json | --csv | --by-node | --figures | --every-stop | --help) last='' ;;
+            --live | --new | --grow | --header | --no-header | --least | --update | --json | --csv | --by-node | --figures | --every-stop | --help) last='' ;;
             --*) last=$word ;;
             *)
                 [ -n "$last" ] || at=$((at + 1))
@@ -61,10 +73,14 @@ _tz() {
         case $last in
         --words) kind=choice list='none at: draw:' ;;
         --as)
-            kind=choice list='edges csv dimacs dot json'
-            [ "${COMP_WORDS[1]}" != import ] || list='edges dimacs as-rel json'
+            kind=choice list='edges csv dimacs dot json graphml gml pajek mm'
+            [ "${COMP_WORDS[1]}" != import ] || list='edges dimacs as-rel json gephi konect networkx graphml gml pajek gexf mm'
             ;;
         --start) kind=choice list='best none draw degree' ;;
+        --undirected) kind=choice list=min ;;
+        --names) [ "${COMP_WORDS[1]}" != gate ] || kind='file' ;;
+        --socket | --program | --token | --out) kind='file' ;;
+        --backups | --tables) kind=folder ;;
         --*) return 0 ;;
         esac
     fi
@@ -73,6 +89,7 @@ _tz() {
     *:-*) ;;
     op:*) list='add: set: cut:' ;;
     file:*) compopt -o filenames && mapfile -t COMPREPLY < <(compgen -f -- "$current") ;;
+    kind:*) list='network stretch tables' ;;
     folder:*) compopt -o filenames && mapfile -t COMPREPLY < <(compgen -d -- "$current") ;;
     esac
     [ -n "$list" ] || return 0
@@ -81,4 +98,4 @@ _tz() {
     [[ ${#COMPREPLY[@]} -ne 1 || ${COMPREPLY[0]} != *: ]] || compopt -o nospace
 }
 
-complete -F _tz tznode tzlab tzrouter
+complete -F _tz tznode tzlab tzrouter hizmorke
