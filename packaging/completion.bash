@@ -27,7 +27,9 @@ _tz_grammar() {
     hizmorke:edit) options='--session --ticket' words='file op' ;;
     hizmorke:route) options='--words' words='file number' ;;
     hizmorke:stats) options='--words --pairs --seed --by-node --csv --json' words='file' ;;
+    hizmorke:view) options='--connect --token --name --words --port --listen --edit --no-browser' words='file' ;;
     hizmorke:plot) options='--words --out' words='kind file' ;;
+    hizmorke:fleet) options='' words='part file' ;;
     hizmorke:time) options='--words --runs --json' words='file' ;;
     hizmorke:gate)
         options='--words --socket --mode --tcp --metrics --program --clients --unanswered --idle --names --forget --token --backups --tables'
@@ -47,7 +49,7 @@ _tz() {
         case $program in
         tznode) list='format edit show resume route check tables serve copy migrate help --help --version' ;;
         tzlab) list='load grow info landmarks journal rehearse help --help' ;;
-        hizmorke) list='import export stats show edit route plot time gate help --help' ;;
+        hizmorke) list='import export stats show edit route view plot time gate fleet help --help' ;;
         esac
     else
         _tz_grammar "$program:${COMP_WORDS[1]}" || return 0
@@ -57,7 +59,7 @@ _tz() {
             word=${COMP_WORDS[k]}
             if [ "$word" = : ] || [ "${COMP_WORDS[k - 1]}" = : ]; then continue; fi
             case $word in
-            --live | --new | --grow | --header | --no-header | --least | --update | --json | --csv | --by-node | --figures | --every-stop | --help) last='' ;;
+            --live | --new | --grow | --header | --no-header | --least | --update | --json | --csv | --by-node | --figures | --every-stop | --edit | --no-browser | --help) last='' ;;
             --*) last=$word ;;
             *)
                 [ -n "$last" ] || at=$((at + 1))
@@ -79,7 +81,7 @@ _tz() {
         --start) kind=choice list='best none draw degree' ;;
         --undirected) kind=choice list=min ;;
         --names) [ "${COMP_WORDS[1]}" != gate ] || kind='file' ;;
-        --socket | --program | --token | --out) kind='file' ;;
+        --socket | --program | --token | --out | --connect) kind='file' ;;
         --backups | --tables) kind=folder ;;
         --*) return 0 ;;
         esac
@@ -90,6 +92,7 @@ _tz() {
     op:*) list='add: set: cut:' ;;
     file:*) compopt -o filenames && mapfile -t COMPREPLY < <(compgen -f -- "$current") ;;
     kind:*) list='network stretch tables' ;;
+    part:*) list='wires hand-out send ping trace replica edit run' ;;
     folder:*) compopt -o filenames && mapfile -t COMPREPLY < <(compgen -d -- "$current") ;;
     esac
     [ -n "$list" ] || return 0

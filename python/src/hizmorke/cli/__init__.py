@@ -2,6 +2,7 @@
 
 from __future__ import annotations
 
+import gc
 import os
 import sys
 from contextlib import suppress
@@ -25,6 +26,7 @@ COMMANDS = {
     "plot": ("draw", "Draw a network, its stretches or its tables into a file"),
     "time": ("times", "Time commands and a service on this machine"),
     "gate": ("gate", "Give one live service many clients, over a socket"),
+    "fleet": ("fleet", "Hand tables to routers, probe them, and keep replicas of a device"),
 }
 # The exit statuses of a command that was interrupted, and of one whose output nobody reads any more.
 INTERRUPTED, UNREAD = 130, 141
@@ -169,6 +171,12 @@ def _status(words: list[str]) -> int:
         # Of a stream an error names no file: click's help is printed by itself.
         told("output failed" if error.filename is None else f"{error.filename}: {error.strerror}")
         return 1
+
+
+def collect_seldom() -> None:
+    """Looks for cycles seldom: a network is many objects and has none, so to look again and again costs a fifth of the
+    time that it takes to read one."""
+    gc.set_threshold(1_000_000)
 
 
 class OutputFailed(Exception):
