@@ -2,6 +2,9 @@
 
 from __future__ import annotations
 
+import os
+import subprocess
+import sys
 from collections.abc import Iterator
 from contextlib import ExitStack
 from pathlib import Path
@@ -13,6 +16,7 @@ from hizmorke.errors import LibraryMissing
 from hizmorke.network import Network
 from hizmorke.programs import Programs
 from hizmorke.tables import default_library
+
 
 @pytest.fixture
 def serve(found: Programs, tmp_path: Path) -> Iterator[object]:
@@ -36,6 +40,32 @@ def serve(found: Programs, tmp_path: Path) -> Iterator[object]:
             return running
 
         yield start
+
+
+@pytest.fixture
+def start(programs: Path, tmp_path: Path) -> Iterator[object]:
+    """Starts commands of the package, which end with the test. What they print goes into NAME.log."""
+    from view_running import PATIENCE
+
+    begun: list[subprocess.Popen[bytes]] = []
+
+    def start(name: str, *words: str, **more: str) -> subprocess.Popen[bytes]:
+        sources = str(Path(__file__).resolve().parents[2] / "src")
+        around = {**os.environ, "HIZMORKE_PROGRAMS": str(programs), "PYTHONPATH": sources, "XDG_CACHE_HOME": str(tmp_path)}
+        for screen in ("DISPLAY", "WAYLAND_DISPLAY", "BROWSER"):
+            around.pop(screen, None)
+        with open(tmp_path / f"{name}.log", "wb") as log:
+            made = subprocess.Popen(
+                [sys.executable, "-P", "-m", "hizmorke", name, *words], stdout=log, stderr=log, env={**around, **more}, cwd=tmp_path
+            )
+        begun.append(made)
+        return made
+
+    yield start
+    for made in reversed(begun):
+        made.terminate()
+    for made in begun:
+        made.wait(PATIENCE)
 
 
 @pytest.fixture

@@ -6,6 +6,7 @@ import json
 import re
 import socket
 import struct
+import time
 from pathlib import Path
 from typing import Any
 
@@ -17,7 +18,7 @@ from hizmorke.device import Device
 from hizmorke.network import Network
 from hizmorke.view.server import TOKEN, page_files
 
-from view_running import HOSTILE, Serve
+from view_running import HOSTILE, PATIENCE, Serve
 
 CALLS = ["network", "part", "scheme", "node", "packet", "reach", "figures", "service", "again", "edit", "nothing"]
 
@@ -61,6 +62,17 @@ def test_its_own_hosts_are_taken(serve: Serve, path_network: Network, host: str)
     named = host.replace("PORT", str(running.port))
     assert running.get("/", Host=named).status == 200
     assert running.post("/api/network", Host=named, Origin=f"http://{named}").status == 200
+
+
+def test_where_others_may_look_it_has_addresses_and_no_names(serve: Serve, path_network: Network) -> None:
+    running = serve(path_network)
+    running.server.listen = "0.0.0.0"
+    for host, status in (("127.0.0.1", 200), ("localhost", 200), ("10.1.2.3", 200), ("[fd00::1]", 200), ("evil.example", 403), ("10.1.2.3.evil.example", 403)):
+        assert running.get("/", Host=f"{host}:{running.port}").status == status, host
+        assert running.get("/", Host=host).status == 403
+        other = running.post("/api/network", Host=f"10.1.2.3:{running.port}", Origin=f"http://{host}:{running.port}")
+        assert other.status == (200 if host == "10.1.2.3" else 403)
+    assert running.url == f"http://127.0.0.1:{running.port}/"
 
 
 @pytest.mark.parametrize("origin", ["", "null", "http://evil.example", "https://127.0.0.1:PORT", "http://127.0.0.1:1", "http://127.0.0.1"])
@@ -179,7 +191,7 @@ def test_edits_are_made_under_tickets_with_their_outcomes(serve: Serve, path_net
 
 
 def _raw(port: int, *parts: bytes, cut: bool = False) -> bytes:
-    with socket.create_connection(("127.0.0.1", port), 30) as made:
+    with socket.create_connection(("127.0.0.1", port), PATIENCE) as made:
         for part in parts:
             made.sendall(part)
         if cut:
@@ -218,11 +230,11 @@ def test_cut_and_broken_connections_leave_the_server_as_it_was(serve: Serve, pat
 
 def test_connections_have_a_bound(serve: Serve, path_network: Network) -> None:
     running = serve(path_network)
-    held = [socket.create_connection(("127.0.0.1", running.port), 30) for _ in range(64)]
+    held = [socket.create_connection(("127.0.0.1", running.port), PATIENCE) for _ in range(64)]
     try:
         for made in held:
             made.sendall(b"GET / HTTP/1.1\r\n")
-        with socket.create_connection(("127.0.0.1", running.port), 30) as more:
+        with socket.create_connection(("127.0.0.1", running.port), PATIENCE) as more:
             try:
                 more.sendall(b"GET / HTTP/1.1\r\n\r\n")
                 assert more.recv(1_000) == b""
@@ -231,10 +243,11 @@ def test_connections_have_a_bound(serve: Serve, path_network: Network) -> None:
     finally:
         for made in held:
             made.close()
-    for _ in range(200):
+    end = time.monotonic() + PATIENCE
+    while True:
         try:
             assert running.get("/").status == 200
             return
         except OSError:
-            continue
-    raise AssertionError("it takes no connections any more")
+            assert time.monotonic() < end, "it takes no connections any more"
+            time.sleep(0.05)

@@ -19,7 +19,7 @@ from pathlib import Path
 from typing import Union
 
 from hizmorke.device import MOST_NODES, Device, Route, Words
-from hizmorke.errors import ChangeRefused, DeviceInUse, HizmorkeError, NoNode, Refused
+from hizmorke.errors import ChangeRefused, DeviceInUse, HizmorkeError, NoNode, Refused, ServiceEnded
 from hizmorke.names import DeviceNames, settle
 from hizmorke.network import Network
 from hizmorke.programs import Programs
@@ -301,7 +301,13 @@ class LiveService(Source):
         return self._service.session
 
     def edit(self, op: Change) -> Outcome:
-        [edited] = self._service.edits([[op]], in_flight=1)
+        try:
+            [edited] = self._service.edits([[op]], in_flight=1)
+        except ServiceEnded as ended:
+            # Before it is sent no ticket is known. Behind that it was made whole, or not at all.
+            if ended.session is None or ended.ticket is None:
+                raise
+            return Outcome(ended.session, ended.ticket, "not known: the service was lost before it answered", False)
         if edited.refused is not None:
             return Outcome(edited.session, edited.ticket, f"refused: {edited.refused.reason}", False)
         return Outcome(edited.session, edited.ticket, "accepted", True, edited.count)

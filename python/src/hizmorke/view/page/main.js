@@ -101,6 +101,8 @@ export class Page {
     const near = this.near ?? [];
     await this.load(true);
     if (near.length && !this.network.is_whole) await this.showPart(near, true);
+    // Whether there is an edge now is known before the tables are.
+    this.panels.edit?.renew();
     await this.choose(this.choice);
   }
 

@@ -10,7 +10,7 @@ export class NodePanel {
   constructor(page, panel) {
     this.page = page;
     this.panel = panel;
-    this.chosen = null;
+    this.chosen = this.awaited = null;
     panel.append(element("p", { class: "quiet" }, "No node is chosen. Click one, or find it by its name."));
   }
 
@@ -32,11 +32,26 @@ export class NodePanel {
     if (this.page.tab !== "node") return this.page.select("node");
     this.page.picture.mark({ chosen: node });
     await this.page.bring([node]);
-    const wanted = () => this.chosen === node;
-    const told = await ask("node", this.page.under({ node }), { ...this.page.telling(), wanted });
+    const wanted = () => this.chosen === node && this.page.tab === "node";
+    const { progress } = this.page.telling();
+    const waiting = (...words) => {
+      if (wanted() && this.awaited !== node) this.showAwaited(node);
+      progress(...words);
+    };
+    const told = await ask("node", this.page.under({ node }), { progress: waiting, wanted });
+    this.awaited = null;
     if (told === null || this.page.tab !== "node") return;
     this.page.picture.mark({ cluster: new Set(told.cluster), holders: new Set(told.holders) });
     this.show(told);
+  }
+
+  /** Tables take long where the network is large; which node is chosen is seen before. */
+  showAwaited(node) {
+    this.awaited = node;
+    this.panel.replaceChildren(
+      element("h2", {}, element("bdi", { id: "node-name" }, this.page.nameOf(node))),
+      element("p", { class: "quiet" }, "What it keeps is shown once the tables are there."),
+    );
   }
 
   show(told) {

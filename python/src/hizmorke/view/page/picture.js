@@ -6,7 +6,11 @@ export const INK = "#1c2430", QUIET = "#5b6675", LINE = "#bcc4ce", ACCENT = "#1f
 const FEW = 40;
 // With more than so many ways are drawn over them.
 const MANY = 200;
+// With more than so many, edges that lie over one another would hide the nodes.
+const CROWDED = 800, FAINT = "#d3dae3";
 const MOST_LABELS = 120;
+// What is drawn in stock for dragging has at most so many points.
+const MOST_POINTS = 16_000_000;
 const LONGEST_LABEL = 28;
 
 export const shortened = (name) => ([...name].length > LONGEST_LABEL ? [...name].slice(0, LONGEST_LABEL - 1).join("") + "…" : name);
@@ -46,8 +50,11 @@ export class Picture {
     this.scale = 40;
     this.left = this.top = 0;
     this.over = null;
+    this.across = this.upright = [0, 0];
     this.isThick = this.isWhole = true;
     this.spread = 1;
+    this.sheet = null;
+    this.isDragged = false;
     this.listen();
     new ResizeObserver(() => this.resize()).observe(canvas);
   }
@@ -61,8 +68,9 @@ export class Picture {
     this.edges = part.edges;
     this.over = null;
     this.bundles = this.bundled();
-    const [left, right] = ends(this.x), [top, bottom] = ends(this.y);
+    const [left, right] = (this.across = ends(this.x)), [top, bottom] = (this.upright = ends(this.y));
     this.spread = Math.sqrt(Math.max(1, (right - left) * (bottom - top)) / Math.max(1, this.nodes.length));
+    this.sheet = null;
     if (!keep) this.fit();
     this.paint();
   }
@@ -72,7 +80,7 @@ export class Picture {
     const weights = this.edges.filter((_, i) => i % 3 === 2).sort((a, b) => a - b);
     const limits = [0.25, 0.5, 0.75].map((part) => weights[Math.floor(part * (weights.length - 1))]);
     const isFew = this.nodes.length <= FEW;
-    const widths = isFew ? [3.6, 2.6, 1.7, 1] : this.nodes.length > 800 ? [0.9, 0.65, 0.4, 0.25] : [2, 1.4, 0.9, 0.5];
+    const widths = isFew ? [3.6, 2.6, 1.7, 1] : this.nodes.length > CROWDED ? [0.9, 0.65, 0.4, 0.25] : [2, 1.4, 0.9, 0.5];
     const bundles = widths.map((width) => ({ width, ends: [] }));
     const isSame = weights.length === 0 || weights[0] === weights[weights.length - 1];
     for (let i = 0; i < this.edges.length; i += 3) {
@@ -84,6 +92,7 @@ export class Picture {
 
   mark(more) {
     Object.assign(this.marks, more);
+    this.sheet = null;
     this.paint();
   }
 
@@ -94,6 +103,7 @@ export class Picture {
     const ratio = window.devicePixelRatio || 1;
     this.canvas.width = Math.round(clientWidth * ratio);
     this.canvas.height = Math.round(clientHeight * ratio);
+    this.sheet = null;
     // What nobody has moved stays whole, also where the legend takes another line.
     if (this.isWhole) this.fit();
     this.paint();
@@ -103,7 +113,7 @@ export class Picture {
     const { clientWidth: width, clientHeight: height } = this.canvas;
     if (!this.nodes.length || !width) return;
     this.isWhole = true;
-    const [left, right] = ends(this.x), [top, bottom] = ends(this.y);
+    const [left, right] = this.across, [top, bottom] = this.upright;
     const margin = this.nodes.length <= FEW ? 60 : 34;
     const across = Math.max(right - left, 0.5), up = Math.max(bottom - top, 0.5);
     this.scale = Math.min((width - 2 * margin) / across, (height - 2 * margin) / up, 150);
@@ -125,6 +135,18 @@ export class Picture {
     this.isWhole = false;
     this.left += x;
     this.top += y;
+    this.paint();
+  }
+
+  /** Moves it as a person drags it: what was drawn goes along, and is drawn anew where its sheet ends. */
+  drag(x, y) {
+    this.isDragged = true;
+    this.move(x, y);
+  }
+
+  drop() {
+    this.isDragged = false;
+    this.sheet = null;
     this.paint();
   }
 
@@ -190,13 +212,19 @@ export class Picture {
       if (!down) return this.hover(this.nodeAt(x, y));
       if (!down.moved && Math.hypot(x - down.x, y - down.y) < 4) return;
       canvas.classList.add("moving");
-      this.move(x - down.x, y - down.y);
+      this.drag(x - down.x, y - down.y);
       down = { x, y, moved: true };
     });
-    canvas.addEventListener("pointerup", (event) => {
+    const lift = () => {
       const was = down;
       down = null;
       canvas.classList.remove("moving");
+      if (was?.moved) this.drop();
+      return was;
+    };
+    canvas.addEventListener("pointercancel", lift);
+    canvas.addEventListener("pointerup", (event) => {
+      const was = lift();
       if (!was || was.moved) return;
       const node = this.nodeAt(event.offsetX, event.offsetY);
       const edge = node === null ? this.edgeAt(event.offsetX, event.offsetY) : null;
@@ -247,11 +275,53 @@ export class Picture {
 
   paintNow() {
     this.asked = false;
-    const ratio = window.devicePixelRatio || 1;
+    const { width, height } = this.canvas;
     const context = this.canvas.getContext("2d");
-    context.setTransform(ratio, 0, 0, ratio, 0, 0);
-    context.clearRect(0, 0, this.canvas.clientWidth, this.canvas.clientHeight);
+    context.setTransform(1, 0, 0, 1, 0, 0);
+    context.clearRect(0, 0, width, height);
+    // A packet on its way is drawn anew with each frame.
+    if (this.isDragged && width && height && !this.marks.packet) {
+      const sheet = this.heldSheet();
+      context.drawImage(sheet.canvas, sheet.x - sheet.marginX, sheet.y - sheet.marginY);
+      return;
+    }
+    const ratio = window.devicePixelRatio || 1;
+    context.scale(ratio, ratio);
     this.draw(new CanvasSurface(context));
+  }
+
+  /** What is drawn and some of what stands around it, as it is moved now; `x` and `y` say how far, in the screen's points. */
+  heldSheet() {
+    const ratio = window.devicePixelRatio || 1;
+    const { width, height } = this.canvas;
+    const sheet = this.sheet;
+    if (sheet && sheet.scale === this.scale) {
+      sheet.x = Math.round((this.left - sheet.left) * ratio);
+      sheet.y = Math.round((this.top - sheet.top) * ratio);
+      if (sheet.isAll || (Math.abs(sheet.x) <= sheet.marginX && Math.abs(sheet.y) <= sheet.marginY)) return sheet;
+    }
+    // A margin on each side that leaves the sheet at most so many points.
+    const part = Math.max(0, Math.min(0.5, (Math.sqrt(MOST_POINTS / Math.max(1, width * height)) - 1) / 2));
+    const marginX = Math.round(part * width), marginY = Math.round(part * height);
+    const canvas = Object.assign(document.createElement("canvas"), { width: width + 2 * marginX, height: height + 2 * marginY });
+    const context = canvas.getContext("2d");
+    context.setTransform(ratio, 0, 0, ratio, marginX, marginY);
+    this.draw(new CanvasSurface(context), { x: marginX / ratio, y: marginY / ratio });
+    const isAll = this.isWithin(marginX / ratio, marginY / ratio);
+    this.sheet = { canvas, marginX, marginY, isAll, x: 0, y: 0, left: this.left, top: this.top, scale: this.scale };
+    return this.sheet;
+  }
+
+  /** Whether all nodes stand in what is seen and a margin around it, with room for their names. */
+  isWithin(marginX, marginY) {
+    const { clientWidth: width, clientHeight: height } = this.canvas;
+    const [left, right] = this.across, [top, bottom] = this.upright, room = 100;
+    return (
+      this.left + this.scale * left > room - marginX &&
+      this.left + this.scale * right < width + marginX - room &&
+      this.top + this.scale * top > room - marginY &&
+      this.top + this.scale * bottom < height + marginY - room
+    );
   }
 
   svg() {
@@ -273,24 +343,29 @@ export class Picture {
     return new Promise((done) => sheet.toBlob(done, "image/png"));
   }
 
-  draw(surface) {
+  /** Draws what is seen, and a margin of so many pixels on each side. */
+  draw(surface, margin = { x: 0, y: 0 }) {
     if (!this.nodes.length) return;
-    this.drawEdges(surface);
-    this.drawNodes(surface);
-    this.drawLabels(surface);
+    const { clientWidth: width, clientHeight: height } = this.canvas;
+    const seen = { left: -margin.x, top: -margin.y, right: width + margin.x, bottom: height + margin.y };
+    this.drawEdges(surface, seen);
+    this.drawNodes(surface, seen);
+    this.drawLabels(surface, seen);
   }
 
-  drawEdges(surface) {
+  drawEdges(surface, { left, top, right, bottom }) {
     const failed = new Set(this.marks.failed.map(([a, b]) => key(a, b)));
     const gone = [];
     for (const { width, ends } of this.bundles) {
       const points = [];
       for (let i = 0; i < ends.length; i += 2) {
-        const line = [this.atX(ends[i]), this.atY(ends[i]), this.atX(ends[i + 1]), this.atY(ends[i + 1])];
+        const ax = this.atX(ends[i]), ay = this.atY(ends[i]), bx = this.atX(ends[i + 1]), by = this.atY(ends[i + 1]);
+        // Both ends beyond one side: nothing of it is seen.
+        if ((ax < left && bx < left) || (ax > right && bx > right) || (ay < top && by < top) || (ay > bottom && by > bottom)) continue;
         const isGone = failed.size > 0 && failed.has(key(this.nodes[ends[i]], this.nodes[ends[i + 1]]));
-        (isGone ? gone : points).push(...line);
+        (isGone ? gone : points).push(ax, ay, bx, by);
       }
-      surface.lines(points, { stroke: LINE, width: this.isThick ? width : Math.min(1.2, this.bundles[1].width) });
+      surface.lines(points, { stroke: this.nodes.length > CROWDED ? FAINT : LINE, width: this.isThick ? width : Math.min(1.2, this.bundles[1].width) });
     }
     if (this.nodes.length <= MANY) this.drawWays(surface);
     surface.lines(gone, { stroke: QUIET, width: 1.4, dash: [2, 5] });
@@ -321,17 +396,18 @@ export class Picture {
     return points;
   }
 
-  drawNodes(surface) {
+  drawNodes(surface, { left, top, right, bottom }) {
     const marks = this.marks, radius = this.radius;
     const groups = { cut: [], anew: [], plain: [], cluster: [], holders: [], both: [], landmarks: [], members: [] };
     for (let place = 0; place < this.nodes.length; place++) {
-      const node = this.nodes[place];
+      const node = this.nodes[place], x = this.atX(place), y = this.atY(place);
+      if (x < left - 20 || x > right + 20 || y < top - 20 || y > bottom + 20) continue;
       const isMember = marks.cluster.has(node), isHolder = marks.holders.has(node);
       let group = isMember ? (isHolder ? "both" : "cluster") : isHolder ? "holders" : "plain";
       if (marks.landmarks.has(node)) group = isMember ? "members" : "landmarks";
       if (marks.anew.has(node)) group = "anew";
       if (marks.cut.has(node)) group = "cut";
-      groups[group].push(this.atX(place), this.atY(place));
+      groups[group].push(x, y);
     }
     const thin = Math.max(0.7, radius / 6), thick = Math.max(1.6, radius / 3.2);
     surface.dots(groups.plain, radius, radius < 4 ? { fill: "#8b95a3" } : { fill: "#fff", stroke: QUIET, width: thin });
@@ -363,7 +439,7 @@ export class Picture {
   }
 
   /** Names, those that matter first, and none over another. */
-  drawLabels(surface) {
+  drawLabels(surface, { left, top, right, bottom }) {
     const marks = this.marks, radius = this.radius;
     const own = [this.over, marks.chosen, ...marks.ends, ...marks.way].filter((node) => node !== null);
     const rest = this.spacing > 34 || this.nodes.length <= 80 ? this.nodes : [];
@@ -375,7 +451,7 @@ export class Picture {
       const isOwn = own.includes(node);
       if (!isOwn && rest.length === 0 && marks.landmarks.size > 12 && this.spacing < 18) continue;
       const x = this.atX(place), y = this.atY(place);
-      if (x < -40 || y < -10 || x > this.canvas.clientWidth + 40 || y > this.canvas.clientHeight + 10) continue;
+      if (x < left - 40 || y < top - 10 || x > right + 40 || y > bottom + 10) continue;
       const name = shortened(this.nameOf(node)), size = isOwn ? 13 : 12;
       const wide = surface.measure(name, size);
       if (this.nodes.length <= FEW && radius >= 9 && wide < 1.7 * radius) {

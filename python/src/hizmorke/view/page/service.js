@@ -39,8 +39,14 @@ export class ServicePanel {
 
   showLost(text) {
     this.lost.hidden = text === null;
+    // What is shown of it is of the time before.
+    for (const part of [this.tiles, this.curves]) part.classList.toggle("old", text !== null);
     if (text !== null && this.lost.textContent !== text) this.lost.textContent = text;
-    document.getElementById("tab-service")?.classList.toggle("bad", text !== null);
+    // It is seen whatever else is looked at.
+    const tab = document.getElementById("tab-service");
+    if (!tab || tab.classList.contains("bad") === (text !== null)) return;
+    tab.classList.toggle("bad", text !== null);
+    tab.textContent = text === null ? "Service" : "Service: lost";
   }
 
   show({ lost, lost_seconds: seconds, rows, changes }) {
@@ -55,8 +61,8 @@ export class ServicePanel {
       [rate(last.routes_a_second), "routes a second"],
       [plain(last.queue), "in the queue"],
       [plain(last.clients), "connections"],
-      [last.build_us === undefined ? "–" : `${plain(Math.round(last.build_us / 1_000))} ms`, "last build"],
-      [last.commit_median_us === undefined ? "–" : `${(last.commit_median_us / 1_000).toFixed(1)} ms`, "a commit, median"],
+      [time(last.build_us), "last build"],
+      [time(last.commit_median_us), "a commit, median"],
     ];
     this.tiles.replaceChildren(...shown.map(([value, label]) => element("div", {}, element("b", {}, value), element("span", {}, label))));
     this.stale.hidden = !(last.generation > this.page.network.count);
@@ -80,6 +86,12 @@ export class ServicePanel {
       ),
     );
   }
+}
+
+/** A time of so many microseconds. */
+function time(micros) {
+  if (micros === null || micros === undefined) return "–";
+  return micros < 1_000 ? `${plain(micros)} µs` : micros < 10_000 ? `${(micros / 1_000).toFixed(1)} ms` : `${plain(Math.round(micros / 1_000))} ms`;
 }
 
 /** A curve of the last seconds, the newest at the right. */
