@@ -17,6 +17,17 @@ from hizmorke.programs import Programs
 
 Edges = list[tuple[int, int, int]]
 
+try:
+    import hypothesis
+except ImportError:
+    # The gate's tests need none.
+    pass
+else:
+    # The machine may have other work: how long a case takes by the clock says nothing.
+    slow = hypothesis.HealthCheck.too_slow
+    hypothesis.settings.register_profile("package", deadline=None, suppress_health_check=[slow])
+    hypothesis.settings.load_profile("package")
+
 
 @pytest.fixture(scope="session")
 def programs(tmp_path_factory: pytest.TempPathFactory) -> Path:

@@ -291,12 +291,12 @@ def test_scaled_weight_is_the_nearest(units: int, places: int, scale: int) -> No
 @pytest.mark.parametrize(
     "line", ["Bern;Genf;2,5", "a b 2,5", "a\tb\t2,5", "New York 5,7", "a b 1.000,5", "Bern;Genf,5"]
 )
-def test_finding_6_a_decimal_comma_or_another_delimiter_is_refused(line: str) -> None:
+def test_a_decimal_comma_or_another_delimiter_is_refused(line: str) -> None:
     text = "the line has a decimal comma, or another delimiter than commas: --delimiter says which"
     assert refusal(f"x y 1\n{line}\n") == f"2 f:2: {text}"
 
 
-def test_finding_6_the_delimiter_that_it_asks_for_helps() -> None:
+def test_the_delimiter_that_it_asks_for_helps() -> None:
     assert network_in("Bern;Genf;2,5\n", delimiter=";", scale=10).edges == [(0, 1, 25)]
     assert network_in("Bern;Genf;2,5\n", delimiter=";", scale=10).names == ["Bern", "Genf"]
     assert network_in("a b 2,5\n", delimiter=" ", scale=10).edges == [(0, 1, 25)]
@@ -311,14 +311,14 @@ def test_finding_6_the_delimiter_that_it_asks_for_helps() -> None:
 @pytest.mark.parametrize(
     "head", ["node1,node2", "id1,id2", "nodeA,nodeB", "node1 node2", "source target", "Src,Dst", "FromNodeId\tToNodeId"]
 )
-def test_finding_7_a_header_of_two_known_words(head: str) -> None:
+def test_a_header_of_two_known_words(head: str) -> None:
     network = network_in(f"{head}\n0 1\n1 2\n")
     assert (network.names, network.node_count) == (None, 3)
     assert network.taken == "edges, header: yes, names: no, 2 weights left out"
 
 
 @pytest.mark.parametrize("head", ["a b", "x,y", "left,right"])
-def test_finding_7_two_names_above_numbers_are_refused(head: str) -> None:
+def test_two_names_above_numbers_are_refused(head: str) -> None:
     assert refusal(f"# x\n{head}\n0 1\n1 2\n") == "2 f:2: the line may be a header: --header or --no-header says it"
     assert network_in(f"{head}\n0 1\n1 2\n", header=True).names is None
     assert network_in(f"{head}\n0 1\n1 2\n", header=False).node_count == 5
@@ -326,13 +326,13 @@ def test_finding_7_two_names_above_numbers_are_refused(head: str) -> None:
 
 
 @pytest.mark.parametrize("word", ["NaN", "N/A", "inf", "unknown", "$5", "?", "x"])
-def test_finding_8_a_weight_that_is_none_makes_no_header(word: str) -> None:
+def test_a_weight_that_is_none_makes_no_header(word: str) -> None:
     assert refusal(f"a,b,{word}\nb,c,5\n") == f"2 f:1: {WEIGHT}"
     assert refusal(f"b,c,5\na,b,{word}\n") == f"2 f:2: {WEIGHT}"
 
 
 @pytest.mark.parametrize("word", ["weight", "Weight", "W", "cost", "distance", "km", "latency", "ms"])
-def test_finding_8_a_known_word_for_the_weight_makes_a_header(word: str) -> None:
+def test_a_known_word_for_the_weight_makes_a_header(word: str) -> None:
     assert network_in(f"left,right,{word}\nb,c,5\n").edges == [(0, 1, 5)]
 
 
@@ -340,7 +340,7 @@ def links(*ends: tuple[object, object], **more: object) -> str:
     return json.dumps({"nodes": [], "links": [{"source": a, "target": b} for a, b in ends], **more})
 
 
-def test_finding_9_two_spellings_of_one_name_are_refused() -> None:
+def test_two_spellings_of_one_name_are_refused() -> None:
     said = '1 and "1" are two spellings of one name'
     assert refusal('{"nodes": [{"id": 1}, {"id": "1"}], "links": []}') == f"2 f: node 2: {said}"
     assert refusal('{"nodes": [{"id": "1"}], "links": [{"source": 1, "target": "2"}]}') == f"2 f: link 1: {said}"
@@ -348,7 +348,7 @@ def test_finding_9_two_spellings_of_one_name_are_refused() -> None:
     assert network_in(links((9, "x"))).names == ["9", "x"]
 
 
-def test_finding_9_repeated_ids_are_refused() -> None:
+def test_repeated_ids_are_refused() -> None:
     assert refusal('{"nodes": [{"id": 1}, {"id": 2}, {"id": 1}], "links": []}') == f"2 f: node 3: {TWICE}"
     assert refusal('{"nodes": [{"id": "a"}, {"id": "a"}], "links": []}') == f"2 f: node 2: {TWICE}"
 
@@ -359,7 +359,7 @@ ONE_WAY = (
 )
 
 
-def test_finding_9_directed_json_needs_both_ways() -> None:
+def test_directed_json_needs_both_ways() -> None:
     assert refusal(links((0, 1), (1, 0), (1, 2), directed=True)) == f"2 f: link 3: {ONE_WAY}"
     assert network_in(links((0, 1), (1, 0), directed=True)).edges == [(0, 1, 1)]
     taken = network_in(links((0, 1), (1, 0), (1, 2), directed=True), undirected="min")
@@ -370,7 +370,7 @@ def test_finding_9_directed_json_needs_both_ways() -> None:
     assert network_in(unlike, undirected="min").edges == [(0, 1, 4)]
 
 
-def test_finding_9_a_weight_under_another_key_is_asked_for() -> None:
+def test_a_weight_under_another_key_is_asked_for() -> None:
     link = {"source": 0, "target": 1, "key": 0, "id": 3, "type": "road", "cost": 5, "distance": 2.5}
     text = json.dumps({"nodes": [], "links": [link]})
     assert refusal(text) == (
@@ -384,7 +384,7 @@ def test_finding_9_a_weight_under_another_key_is_asked_for() -> None:
     )
 
 
-def test_finding_9_floats_in_json_go_by_scale_alone() -> None:
+def test_floats_in_json_go_by_scale_alone() -> None:
     text = weighted((0, 1, 2.0), (1, 2, 0.125))
     assert refusal(text) == f"2 f: link 1: {WEIGHT}"
     network = network_in(text, scale=100)
@@ -397,12 +397,12 @@ def test_finding_9_floats_in_json_go_by_scale_alone() -> None:
     assert refusal(huge, scale=1) == f"2 f: link 1: {WEIGHT}"
 
 
-def test_finding_13_a_cut_dimacs_file_is_refused() -> None:
+def test_a_cut_dimacs_file_is_refused() -> None:
     assert refusal("c x\np sp 3 99\na 1 2 5\n") == "2 f:2: it says 99 arcs, and there are 1"
     assert network_in("p sp 3 1\na 1 2 5\na 2 1 5\n").edges == [(0, 1, 5)]
 
 
-def test_finding_19_a_file_that_says_no_node_is_named() -> None:
+def test_a_file_that_says_no_node_is_named() -> None:
     assert refusal("# nothing\n") == "1 f: it says no node: --nodes says how many there are"
     assert network_in("# nothing\n", nodes=4).node_count == 4
 
@@ -650,7 +650,7 @@ NASTY = [
 
 
 @pytest.mark.skipif(shutil.which("dot") is None, reason="graphviz isn't there")
-def test_finding_16_names_come_back_through_graphviz() -> None:
+def test_names_come_back_through_graphviz() -> None:
     names = [name for name in NASTY if is_name(name) and name not in ("\x00", "\ufeff")]
     network = Network(len(names), [(node, node + 1, 1) for node in range(len(names) - 1)], names)
     text = forms.text_of(network, "dot").encode()
@@ -699,13 +699,13 @@ def same(network: Network, text: str, path: str) -> None:
 
 @settings(deadline=None)
 @given(networks())
-def test_finding_1_edges_come_back_as_the_same_network(network: Network) -> None:
+def test_edges_come_back_as_the_same_network(network: Network) -> None:
     same(network, forms.text_of(network), "f")
 
 
 @settings(deadline=None)
 @given(networks())
-def test_finding_1_json_comes_back_as_the_same_network(network: Network) -> None:
+def test_json_comes_back_as_the_same_network(network: Network) -> None:
     same(network, forms.text_of(network, "json"), "f")
 
 

@@ -147,7 +147,7 @@ def test_laid_names_are_put_in_their_place_or_taken_away(device: str) -> None:
         lay(str(Path(device) / "x"), "")
 
 
-def test_finding_3_names_of_a_higher_count_are_refused(device: str) -> None:
+def test_names_of_a_higher_count_are_refused(device: str) -> None:
     beside(device, ".names", "Bern\nGenf\n")
     write_count(device, 5)
     assert Path(device + ".names.count").read_text() == "count=5 crc32=8c46b94e\n"
@@ -171,7 +171,7 @@ def test_finding_3_names_of_a_higher_count_are_refused(device: str) -> None:
         DeviceNames.read(device, network, 0)
 
 
-def test_finding_3_names_of_another_network_at_the_same_count_are_refused(device: str) -> None:
+def test_names_of_another_network_at_the_same_count_are_refused(device: str) -> None:
     # Bern, Genf and Basel; then the device is made anew and has one change again.
     beside(device, ".names", "Bern\nGenf\nBasel\n")
     write_count(device, 1, Network(3, [(1, 0, 5), (1, 2, 7)]))
@@ -248,7 +248,7 @@ def test_how_many_nodes_there_may_be() -> None:
 # ---- findings of a new user's trial
 
 
-def test_finding_1_an_unnamed_node_keeps_its_number() -> None:
+def test_an_unnamed_node_keeps_its_number() -> None:
     # AS numbers are names; node 3 has none, and node 0 is called "3".
     network = Network(4, [(0, 1, 1), (1, 2, 1), (3, 0, 9)], ["3", "2", "4"])
     text = text_of(network)
@@ -287,7 +287,7 @@ def test_number_signs_that_are_no_such_node() -> None:
     assert refused("0 #1", numbers) == said
 
 
-def test_finding_2_a_name_goes_to_no_node_with_edges() -> None:
+def test_a_name_goes_to_no_node_with_edges() -> None:
     network = Network(4, [(0, 1, 1), (1, 2, 1), (3, 0, 9)])
     full = on(network, DeviceNames(["a", "b", "c"]))
     text = "there is no node for the name `new`: those without a name have edges, and a new name goes to none of these"
@@ -342,7 +342,7 @@ def test_update_takes_lines_with_one_edge_and_weight_as_one() -> None:
 NAMES = ["Bern", "San Juan", "a:b", 'say "hi"', "#x", "#5", "a\tb", "-a", "--", "a-b"]
 
 
-def test_finding_17_nodes_are_spelled_so_that_they_can_be_given_back() -> None:
+def test_nodes_are_spelled_so_that_they_can_be_given_back() -> None:
     assert [spelled(node, NAMES) for node in range(12)] == [
         "Bern", '"San Juan"', '"a:b"', "#3", '"#x"', "#5", '"a\tb"', '"-a"', '"--"', "a-b", "#10", "#11",
     ]  # fmt: skip

@@ -24,6 +24,8 @@ from hizmorke.programs import Programs
 from hizmorke.service import IN_FLIGHT, Edited, Service, ServiceState, _Pipes
 
 SOURCE = Path(__file__).resolve().parents[1] / "src"
+# So long something may take, in seconds: this machine may do something else too.
+PATIENCE = 240.0
 
 
 @pytest.fixture
@@ -291,7 +293,7 @@ def test_refused_edits_of_a_row_stay_refused(device: Device, seed: int) -> None:
 def test_questions_are_asked_again(device: Device) -> None:
     device.edit(["add:0:1:3", "add:1:2:4"])
     with served(device, "at:1") as service, killed_again_and_again(lambda: busy_process(service), 1, 6) as killed:
-        until = time.monotonic() + 20
+        until = time.monotonic() + PATIENCE
         while len(killed) < 6 and time.monotonic() < until:
             assert service.routes([(0, 2)] * 50) == [Route(1, (0, 1, 2), 7)] * 50
             assert service.wait() == 1 and service.resume(0) == 1 and service.metrics()["count"] == 1
@@ -301,7 +303,7 @@ def test_questions_are_asked_again(device: Device) -> None:
 def test_a_line_behind_a_failed_write_waits_for_the_end() -> None:
     """A process that doesn't listen any more may still speak. Who tries anew comes to another one then."""
     connection = _Pipes(["/bin/sh", "-c", "exec <&-; sleep 1"], "net")
-    until = time.monotonic() + 60
+    until = time.monotonic() + PATIENCE
     while not connection._closing and time.monotonic() < until:
         connection.send("state")
         time.sleep(0.01)
@@ -342,7 +344,7 @@ input()
         with pytest.raises(errors.DeviceInUse):
             device.info()
         starter.kill()
-    until = time.monotonic() + 20
+    until = time.monotonic() + PATIENCE
     while True:
         try:
             assert device.info().count == 1
@@ -478,7 +480,10 @@ def test_later_edits_of_a_row_wait_for_those_whose_answers_were_lost(tmp_path: P
         row = service.edits([["cut:0:1"]] * 12, in_flight=4)
         assert next(row) == Edited(0, 1, True, 1)
         # The end of the service is known before the next edits are sent.
-        time.sleep(0.5)
+        until, connection = time.monotonic() + PATIENCE, service._connection
+        while connection is not None and not connection.is_lost:
+            assert time.monotonic() < until
+            time.sleep(0.01)
         assert list(row) == [Edited(0, ticket, True, ticket) for ticket in range(2, 13)]
     assert (tmp_path / "kept").read_text().split() == [str(ticket) for ticket in range(1, 13)]
 
@@ -534,7 +539,7 @@ for line in sys.stdin:
     with Service(tmp_path / "net", "none", programs=programs) as service:
         with ThreadPoolExecutor(4) as pool:
             asked = [pool.submit(lambda: [service.send("wait") for _ in range(400)]) for _ in range(4)]
-            deadline = time.monotonic() + 20
+            deadline = time.monotonic() + PATIENCE
             while (tmp_path / "count").exists() is False or (tmp_path / "count").read_text() != str(IN_FLIGHT):
                 assert time.monotonic() < deadline
                 time.sleep(0.01)
@@ -542,7 +547,7 @@ for line in sys.stdin:
             assert (tmp_path / "count").read_text() == str(IN_FLIGHT)
             assert not all(sent.done() for sent in asked)
             (tmp_path / "go").touch()
-            answers = [answer.result(20) for sent in asked for answer in sent.result(20)]
+            answers = [answer.result(PATIENCE) for sent in asked for answer in sent.result(PATIENCE)]
     assert answers == ["generation=7"] * 1_600
 
 
@@ -560,7 +565,7 @@ def gate(device: Device, *words: str) -> Iterator[tuple[Path, subprocess.Popen[b
         yield path, process
     finally:
         process.terminate()
-        assert process.wait(30) in (0, 1)
+        assert process.wait(PATIENCE) in (0, 1)
 
 
 def service_of(gate_process: int) -> int | None:
@@ -570,7 +575,7 @@ def service_of(gate_process: int) -> int | None:
 
 
 def test_a_client_of_a_gate(device: Device) -> None:
-    with gate(device) as (path, _), Service.connect(path, "north", timeout=20) as north:
+    with gate(device) as (path, _), Service.connect(path, "north", timeout=PATIENCE) as north:
         assert north.session == 1
         assert north.edit(["add:0:1:5"]) == Edited(1, 1, True, 1)
         assert north.wait() == 1 and north.route(0, 1) == Route(1, (0, 1), 5)
@@ -597,7 +602,7 @@ def test_a_token(device: Device, tmp_path: Path) -> None:
         free.bind(("127.0.0.1", 0))
         port = free.getsockname()[1]
     with gate(device, "--tcp", str(port), "--token", str(tmp_path / "token")) as (path, _):
-        with Service.connect(("127.0.0.1", port), "north", token="s3cret", timeout=20) as north:
+        with Service.connect(("127.0.0.1", port), "north", token="s3cret", timeout=PATIENCE) as north:
             assert north.edit(["add:0:1:5"]).count == 1
         for token in ("other", None):
             with pytest.raises(errors.TokenRefused):
@@ -611,7 +616,7 @@ def test_each_edit_over_a_gate_is_made_once(device: Device, seed: int) -> None:
     with gate(device) as (path, process):
 
         def edit(number: int) -> list[Edited]:
-            with Service.connect(path, names[number], timeout=30) as client:
+            with Service.connect(path, names[number], timeout=PATIENCE) as client:
                 one = [client.edit([f"set:0:{number + 1}:{weight}"]) for weight in range(1, each)]
                 rows = ([f"set:0:{number + 1}:{weight}"] for weight in range(each, 9 * each))
                 return [*one, *client.edits(rows, in_flight=40)]
@@ -637,7 +642,7 @@ def test_no_gate_is_there(tmp_path: Path) -> None:
 
 def test_a_client_comes_back_to_a_gate_that_was_started_again(device: Device) -> None:
     with gate(device) as (path, _):
-        client = Service.connect(path, "north", timeout=30)
+        client = Service.connect(path, "north", timeout=PATIENCE)
         assert client.edit(["add:0:1:5"]) == Edited(1, 1, True, 1)
     path.unlink(missing_ok=True)
     with gate(device), client:

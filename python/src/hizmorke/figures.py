@@ -14,14 +14,13 @@ import tempfile
 from collections.abc import Callable, Iterator
 from dataclasses import dataclass
 from functools import cached_property
+from importlib.util import find_spec
 from pathlib import Path
 from types import ModuleType
 from typing import TYPE_CHECKING, Literal
 
-import numpy as np
-
 from hizmorke.device import MOST_NODES, Device, Route, Words
-from hizmorke.errors import AnswerNotUnderstood, NumberNotUnderstood, TableFileUnwritable
+from hizmorke.errors import AnswerNotUnderstood, NumberNotUnderstood, PackageMissing, TableFileUnwritable
 from hizmorke.programs import Programs
 from hizmorke.service import Service
 from hizmorke.words import GREATEST, MOST_PAIRS, LandmarkWords, drawn_pairs
@@ -30,6 +29,13 @@ if TYPE_CHECKING:
     from numpy.typing import NDArray
 
     from hizmorke.network import Network
+
+# Said before tables are built, which takes a while.
+for _package in ("numpy", "scipy"):
+    if find_spec(_package) is None:
+        raise PackageMissing(_package)
+
+import numpy as np  # noqa: E402
 
 ENTRY_BYTES = 13
 """The bytes of an entry in a table."""

@@ -520,9 +520,24 @@ def _take_once(reading: Reading, assigned: Assigned, least: bool, update: bool) 
     if not (reading.repeats or by_least or update):
         return
     edges = assigned.network.edges
-    kept: dict[tuple[int, int], int] = {}
-    for place, (a, b, weight) in enumerate(edges):
-        pair = (a, b) if a < b else (b, a)
+    pairs = _pair_numbers(edges)
+    # The first place of each pair.
+    kept = dict(zip(reversed(pairs), range(len(pairs) - 1, -1, -1)))
+    if len(kept) == len(edges):
+        return
+    if len(set(zip(pairs, (edge[2] for edge in edges)))) == len(kept):
+        places = sorted(kept.values())
+    else:
+        places = _chosen(reading, edges, pairs, by_least)
+    assigned.places = places
+    assigned.network.edges = [edges[place] for place in places]
+    assigned.lines = [assigned.lines[place] for place in places]
+
+
+def _chosen(reading: Reading, edges: Sequence[tuple[int, int, int]], pairs: Sequence[int], by_least: bool) -> list[int]:
+    # The place of each pair's least weight, where the least counts; pairs in the order in which they come.
+    kept: dict[int, int] = {}
+    for place, (pair, (_, _, weight)) in enumerate(zip(pairs, edges)):
         other = kept.setdefault(pair, place)
         if other == place or edges[other][2] == weight:
             continue
@@ -531,10 +546,12 @@ def _take_once(reading: Reading, assigned: Assigned, least: bool, update: bool) 
             raise reading.refusal(NotUnderstood, place, text)
         if weight < edges[other][2]:
             kept[pair] = place
-    if len(kept) < len(edges):
-        assigned.places = list(kept.values())
-        assigned.network.edges = [edges[place] for place in assigned.places]
-        assigned.lines = [assigned.lines[place] for place in assigned.places]
+    return list(kept.values())
+
+
+def _pair_numbers(edges: Iterable[tuple[int, int, int]]) -> list[int]:
+    # A number for the two nodes of each edge, the same one both ways.
+    return [(a << 32) + b if a < b else (b << 32) + a for a, b, _ in edges]
 
 
 def judge(
@@ -592,7 +609,7 @@ def _are_plain(edges: Sequence[tuple[int, int, int]]) -> bool:
     weights = [edge[2] for edge in edges]
     if min(weights) < 1 or max(weights) > MOST_WEIGHT or any(a == b for a, b, _ in edges):
         return False
-    return len({(a << 32) + b if a < b else (b << 32) + a for a, b, _ in edges}) == len(edges)
+    return len(set(_pair_numbers(edges))) == len(edges)
 
 
 # ---- nodes as they are printed and asked for

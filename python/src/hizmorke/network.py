@@ -46,6 +46,28 @@ class Network:
     taken: str | None = field(default=None, compare=False)
 
     @classmethod
+    def read(cls, path: str | os.PathLike[str], form: str | None = None, **options: Any) -> Network:
+        """Read a network from a file, as `hizmorke.read` does.
+
+        Parameters
+        ----------
+        path : str or path
+            The file.
+        form : str, optional
+            One of `hizmorke.forms.FORMS_IN`; None: the file tells it.
+        **options
+            As `hizmorke.read` takes them.
+
+        Raises
+        ------
+        NotUnderstood, NetworkRefused
+            With the file, and the line where the form has lines.
+        """
+        from hizmorke.forms import read
+
+        return read(path, form, **options)
+
+    @classmethod
     def from_networkx(
         cls, graph: Any, *, weight: str | None = "weight", scale: int = 1, undirected: str | None = None
     ) -> Network:
@@ -77,14 +99,20 @@ class Network:
 
         return network_of_graph(graph, weight=weight, scale=scale, undirected=undirected)
 
-    def to_networkx(self) -> Any:
-        """This network as a `networkx.Graph`: nodes are numbers, or names in their order, edges have ``weight``."""
-        import networkx
+    def to_networkx(self, *, scale: int = 1) -> Any:
+        """This network as a `networkx.Graph`: nodes are numbers, or names in their order, edges have ``weight``.
 
-        graph = networkx.Graph()
+        Parameters
+        ----------
+        scale : int
+            Weights are divided by this, so `from_networkx` of the same scale takes them back. 1: they stay ints.
+        """
+        from hizmorke.forms.graphs import networkx_module
+
+        graph = networkx_module().Graph()
         nodes: list[Hashable] = list(range(self.node_count)) if self.names is None else [*self.spelled()]
         graph.add_nodes_from(nodes)
-        graph.add_weighted_edges_from((nodes[a], nodes[b], w) for a, b, w in self.edges)
+        graph.add_weighted_edges_from((nodes[a], nodes[b], w if scale == 1 else w / scale) for a, b, w in self.edges)
         return graph
 
     def write(self, to: str | os.PathLike[str] | IO[str], form: str = "edges") -> None:

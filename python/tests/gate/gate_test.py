@@ -13,6 +13,8 @@ needs_stand_in = pytest.mark.needs_stand_in
 for_long = pytest.mark.skipif(not os.environ.get("TZGATE_LOADS"), reason="TZGATE_LOADS runs them")
 # A limit by the clock says something only on a machine that does nothing else.
 by_the_clock = pytest.mark.skipif(not os.environ.get("TZGATE_LOADS"), reason="a limit by the clock: TZGATE_LOADS runs it")
+# On a machine that does other work all may take so many times as long, and that much less may be done in a time; else the limits are those that are promised.
+LATE = int(os.environ.get("TZGATE_LATE", "1"))
 
 
 class GateTest:
@@ -35,7 +37,7 @@ class GateTest:
         return gate
 
     def talk(self, gate):
-        return self.stack.enter_context(Talk(gate if isinstance(gate, tuple) else gate.path))
+        return self.stack.enter_context(Talk(gate if isinstance(gate, (tuple, str)) else gate.path))
 
     def says(self, talk, *rows):
         for line, answer in rows:

@@ -21,6 +21,7 @@ import statistics
 import subprocess
 import sys
 import tempfile
+import termios
 import time
 import traceback
 from array import array
@@ -173,7 +174,11 @@ class Talk:
     def __init__(self, where):
         self.socket = socket.socket(socket.AF_UNIX if isinstance(where, str) else socket.AF_INET)
         self.socket.settimeout(300)
-        self.socket.connect(where)
+        try:
+            self.socket.connect(where)
+        except OSError:
+            self.socket.close()
+            raise
         self.rest = b""
 
     def __enter__(self):
@@ -184,6 +189,10 @@ class Talk:
 
     def send(self, data):
         self.socket.sendall(data)
+
+    def taken(self):
+        """Waits until the gate has read all that was sent to its Unix socket."""
+        eventually(lambda: not int.from_bytes(fcntl.ioctl(self.socket, termios.TIOCOUTQ, bytes(4)), sys.byteorder))
 
     def read(self):
         """The next answer; None at the end."""

@@ -28,6 +28,8 @@ class TestEnds(GateTest):
             talk.send(b"\n".join(lines) + b"\n")
             sent += sum(map(len, lines)) + len(lines)
         assert 75_000 < sent < 110_000, sent
+        for talk in talks:
+            talk.taken()
         time.sleep(1)
         gate.process.send_signal(signal.SIGTERM)
         gate.said("a signal has come")

@@ -10,7 +10,7 @@ import time
 from pathlib import Path
 
 import pytest
-from gate_test import CLEAN, GateTest
+from gate_test import CLEAN, LATE, GateTest
 from load import GATE, eventually
 
 ROUTE = ("route 0 1", "generation=63 route 0 1 length 1")
@@ -109,7 +109,7 @@ class TestNames(GateTest):
         assert holder.stdout.readline() == b"has\n"
         begun = time.monotonic()
         self.says(self.talk(gate), ("hello four", "session cannot be kept"))
-        assert time.monotonic() - begun < 1
+        assert time.monotonic() - begun < LATE
         assert self.forget("one").returncode == 1
 
 
@@ -183,7 +183,7 @@ class TestTcp(GateTest):
         silent = self.talk(gate)
         begun = time.monotonic()
         assert [silent.read(), silent.read()] == ["token refused", None]
-        assert 9 < time.monotonic() - begun < 15
+        assert 9 < time.monotonic() - begun < 10 + 5 * LATE
         assert not Path(self.device + ".sessions").exists()
         assert gate.stop() == 0
         for text in ("", "\n", "a b\n", "ä\n", "x" * 1_025):
@@ -228,18 +228,26 @@ class TestTcp(GateTest):
         self.says(talk, ("wait", "generation=64"), ("route 0 1", "generation=64 route 0 1 length 1"), ("hello", "not a name"))
         time.sleep(1.1)
         asked = b"GET /metrics HTTP/1.1\r\nHost: 127.0.0.1:%d\r\n\r\n" % port
-        status, text = self.page(port, asked)
-        assert status == "HTTP/1.1 200 OK"
-        rows = dict(row.rsplit(" ", 1) for row in text.splitlines() if not row.startswith("#"))
+        pages = []
+
+        def fresh():
+            # Figures that the service doesn't tell within a moment are told as they were.
+            pages.append(self.page(port, asked))
+            assert pages[-1][0] == "HTTP/1.1 200 OK"
+            rows = dict(row.rsplit(" ", 1) for row in pages[-1][1].splitlines() if not row.startswith("#"))
+            return rows if rows['tz_answers_total{kind="accepted"}'] == "1" else None
+
+        rows = eventually(fresh)
         # The gate has asked for figures once itself, and for the state at the start and for `wait`.
-        counted = {"accepted": 1, "already_in": 1, "resume": 1, "wait": 0, "route": 1, "metrics": 1, "not_understood": 0}
+        assert 1 <= int(rows['tz_answers_total{kind="metrics"}']) <= len(pages)
+        counted = {"accepted": 1, "already_in": 1, "resume": 1, "wait": 0, "route": 1, "not_understood": 0}
         for kind, count in counted.items():
             assert rows[f'tz_answers_total{{kind="{kind}"}}'] == str(count), kind
         some = {"tz_changes": "64", "tz_generation": "64", "tz_generation_lacks": "0", "tz_queue": "0", "tz_commits_total": "1", "tzgate_starts_total": "1"}
         some |= {"tzgate_waits_total": "1", "tzgate_waiting": "0", "tzgate_service_up": "1"}
         assert {name: rows[name] for name in some} == some
         assert float(rows['tz_commit_seconds{of="least"}']) <= float(rows['tz_commit_seconds{of="greatest"}'])
-        assert float(rows["tzgate_figures_age_seconds"]) < 0.5
+        assert float(rows["tzgate_figures_age_seconds"]) < 0.5 * LATE
         # Bytes behind a request count for nothing, and a request may come in parts, with a query, or for the head alone.
         assert self.page(port, asked + asked)[0] == "HTTP/1.1 200 OK"
         assert self.page(port, asked.replace(b"/metrics", b"/metrics?x=1"))[0] == "HTTP/1.1 200 OK"

@@ -7,7 +7,7 @@ import socket
 import threading
 import time
 
-from gate_test import GateTest, by_the_clock, needs_stand_in
+from gate_test import LATE, GateTest, by_the_clock, needs_stand_in
 from load import PATH, eventually, figure
 
 
@@ -57,13 +57,13 @@ class TestTurns(GateTest):
         assert talk.read() == "1 1 accepted count=64"
         # Who comes later waits for what was accepted by then, and not for more.
         self.says(other, ("hello two", "session=2 ticket=0"), ("wait", "generation=64"))
-        assert 0.9 < time.monotonic() - begun < 2
+        assert 0.9 < time.monotonic() - begun < 1 + LATE
         assert [talk.read(), talk.read()] == ["generation=64", "generation=64 route 70 71 length 1"]
         for _ in range(50):
             assert talk.read() == "generation=64"
         times = asking.end()
         figure(f"beside a client that waits for tables: {len(times)} answers, the longest after {1e3 * times[-1]:.0f} milliseconds")
-        assert len(times) > 50 and times[-1] < 0.5
+        assert len(times) > 50 / LATE and times[-1] < 0.5 * LATE
         # One question serves all who wait: not many more than one in 50 milliseconds.
         assert self.figures(port)['tz_answers_total{kind="wait"}'] == 0
         assert self.figures(port)["tzgate_waits_total"] == 52
@@ -117,6 +117,7 @@ class TestTurns(GateTest):
         talk, other = self.talk(gate), self.talk(gate)
         self.says(talk, ("hello one", "session=1 ticket=0"), ("lag 60000", "lag 60000"), ("edit 1 1 add:70:71:1", "1 1 accepted count=64"))
         talk.send(b"wait\nroute 70 71\n")
+        talk.taken()
         time.sleep(0.5)
         gate.kill_service()
         assert talk.read() == "no answer: 4"
@@ -152,6 +153,7 @@ class TestTurns(GateTest):
         talk.send(b"route 0 1\n" * 3_000)
         other.send(b"route 0 2\n")
         eventually(lambda: self.figures(port)["tzgate_under_way"] >= 17)
+        other.taken()
         time.sleep(0.3)
         # Those of two clients, and one of the gate's own.
         assert 17 <= self.figures(port)["tzgate_under_way"] <= 18
@@ -212,11 +214,12 @@ class TestTurns(GateTest):
         pid = gate.service()
         os.kill(pid, signal.SIGSTOP)
         talk.send(b"state\n")
+        talk.taken()
         time.sleep(1.5)
         begun = time.monotonic()
         assert self.figures(port)["tz_changes"] == 63
-        assert 1_000 < int(asks.ask("metrics").rpartition(" ")[2][:-1]) < 10_000
-        assert time.monotonic() - begun < 0.2
+        assert 1_000 < int(asks.ask("metrics").rpartition(" ")[2][:-1]) < 10_000 * LATE
+        assert time.monotonic() - begun < 0.2 * LATE
         device = open(self.device, "rb")
         self.stack.callback(device.close)
         os.rename(self.device, self.device + ".away")
@@ -224,7 +227,7 @@ class TestTurns(GateTest):
         gate.said("starts again in 0.4 seconds")
         begun = time.monotonic()
         rows = self.figures(port)
-        assert time.monotonic() - begun < 0.1
+        assert time.monotonic() - begun < 0.1 * LATE
         assert (rows["tzgate_service_up"], rows["tz_changes"]) == (0, 63) and rows["tzgate_figures_age_seconds"] > 1
         os.rename(self.device + ".away", self.device)
         assert talk.read() == "no answer: 2"

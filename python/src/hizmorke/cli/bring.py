@@ -10,7 +10,7 @@ from pathlib import Path
 
 import click
 
-from hizmorke.cli import SETTINGS, printed, told
+from hizmorke.cli import SETTINGS, collect_seldom, printed, told
 from hizmorke.cli.words import flag, number_in, value
 from hizmorke.errors import HizmorkeError, NotUnderstood
 
@@ -75,6 +75,7 @@ def bring(
     form = rest["as"]
     check_words(form, options)
     node_count = number_in(nodes, 1, 16_384, "--nodes takes 1 to 16384")
+    collect_seldom()
     reading = read_rows(file, form, options)
     for note in reading.notes:
         told(note)

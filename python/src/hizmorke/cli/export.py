@@ -4,7 +4,7 @@ from __future__ import annotations
 
 import click
 
-from hizmorke.cli import SETTINGS, printed
+from hizmorke.cli import SETTINGS, collect_seldom, printed
 from hizmorke.cli.words import value
 from hizmorke.errors import NotUnderstood
 
@@ -27,6 +27,7 @@ def export(device: str, words: str | None, **rest: str | None) -> int:
         if form != "dot":
             raise NotUnderstood("--words goes with --as dot")
         words_of_form(words)
+    collect_seldom()
     looked = Looked(device, whole=True)
     network = Network(looked.info.nodes, looked.edges, looked.names)
     marks = None

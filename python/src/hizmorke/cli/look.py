@@ -119,7 +119,14 @@ def _source(
 
     if connect is None:
         assert device is not None
-        return RestDevice(Path(device), words, can_edit=edit), None
+        rest = RestDevice(Path(device), words, can_edit=edit)
+        try:
+            # What can't be read is told here, and not on a page.
+            rest.device.resume(0)
+        except BaseException:
+            rest.close()
+            raise
+        return rest, None
     place = _place(connect)
     service = LiveService(place, token, None if device is None else Path(device), name=name if edit else None)
     return service, Watch(place, token, service.session)

@@ -17,7 +17,7 @@ from __future__ import annotations
 import re
 from collections.abc import Callable, Sequence
 from itertools import chain
-from typing import NamedTuple
+from typing import Any, NamedTuple
 
 from hizmorke.errors import NotUnderstood
 from hizmorke.forms.reading import Options, Reading, check_directions
@@ -67,6 +67,8 @@ _BLANKS = " \t\n\x0c\r"
 _AROUND_FIELDS = (" ,", ", ", "\n ", " \n", "\t", "\x0c", "\r")
 _DECIMAL_COMMA = re.compile(r".*[; \t][0-9.]*[0-9],[0-9]+[ \t\r]*")
 _LISTED = re.compile(r"[ \t\r]*([^ \t\r{]+)[ \t\r]+([^ \t\r{]+)[ \t\r]+(\{.*\})[ \t\r]*")
+# One key and a number, as nearly all edges have: `ast.literal_eval` takes ten times as long.
+_PLAIN_DATA = re.compile(r"\{'([a-z_]+)': ((?:0|[1-9][0-9]{0,17})(\.[0-9]{1,18})?)\}")
 _RELATIONS = frozenset({"0", "1", "2", "-1"})
 
 Split = Callable[[str], list[str]]
@@ -421,20 +423,31 @@ def _take_all(lines: _Lines, reading: Reading, start: int) -> bool:
     rows = _plain_rows(lines, start)
     if not rows or set(map(len, rows)) != {3}:
         return False
-    words = [row[2] for row in rows]
-    try:
-        weights = list(map(int, words))
-    except ValueError:
-        return False
-    if min(weights) < 0 or max(weights) >= BELOW or list(map(str, weights)) != words:
+    weights = _plain_weights([row[2] for row in rows])
+    if weights is None:
         return False
     plain = Reading(reading.path, reading.form, [row[0] for row in rows], [row[1] for row in rows], weights, [])
     if any(end[:1] == "#" for end in plain.ends) or not all(map(is_label, plain.ends)):
         return False
-    reading.sources, reading.targets, reading.weights = plain.sources, plain.targets, weights
-    reading.numbers = range(start + 1, start + 1 + len(rows))
-    reading.ends = plain.ends
+    _take_plain(reading, plain, start)
     return True
+
+
+def _plain_weights(words: list[str]) -> list[int] | None:
+    # The weights that words are, of which there is one at least; None where one of them is none.
+    try:
+        weights = list(map(int, words))
+    except ValueError:
+        return None
+    is_plain = min(weights) >= 0 and max(weights) < BELOW and list(map(str, weights)) == words
+    return weights if is_plain else None
+
+
+def _take_plain(reading: Reading, plain: Reading, start: int) -> None:
+    # Edges that a row of lines says from a place on.
+    reading.sources, reading.targets, reading.weights = plain.sources, plain.targets, plain.weights
+    reading.numbers = range(start + 1, start + 1 + len(plain.weights))
+    reading.ends = plain.ends
 
 
 def _check_end(lines: _Lines, place: int, fields: Sequence[str], end: str) -> None:
@@ -562,8 +575,6 @@ def read_konect(parted: Parted, path: str, options: Options) -> Reading:
 
 def read_listed(parted: Parted, path: str, options: Options) -> Reading:
     """Read what networkx's ``write_edgelist`` writes: ``A B {'weight': 5}``."""
-    import ast
-
     from hizmorke.forms.weights import weight_among
 
     weights = Weights(options.scale)
@@ -573,13 +584,8 @@ def read_listed(parted: Parted, path: str, options: Options) -> Reading:
         if not words or words[0][0] == "#":
             continue
         found = _LISTED.fullmatch(line.replace(options.delimiter, " ", 2) if options.delimiter else line)
-        data = None
-        if found is not None:
-            try:
-                data = ast.literal_eval(found[3])
-            except (ValueError, SyntaxError, MemoryError, RecursionError):
-                data = None
-        if found is None or not isinstance(data, dict):
+        data = None if found is None else _data_of(found[3])
+        if found is None or data is None:
             raise NotUnderstood(NETWORKX, path=path, line=place + 1)
         weight, wrong = weight_among(data, weights, options.weight)
         if weight is None:
@@ -596,9 +602,23 @@ def read_listed(parted: Parted, path: str, options: Options) -> Reading:
     return reading
 
 
+def _data_of(text: str) -> dict[Any, Any] | None:
+    # The data of an edge, as Python spells a dict; None if it is none.
+    plain = _PLAIN_DATA.fullmatch(text)
+    if plain is not None:
+        return {plain[1]: float(plain[2]) if plain[3] else int(plain[2])}
+    import ast
+
+    try:
+        data = ast.literal_eval(text)
+    except (ValueError, SyntaxError, MemoryError, RecursionError):
+        return None
+    return data if isinstance(data, dict) else None
+
+
 def read_dimacs(parted: Parted, path: str, options: Options) -> Reading:
     """Read the arcs of DIMACS: ``a U V W`` behind ``c`` lines and ``p sp N M``. Nodes count from 1."""
-    lines, rows, weights = parted.lines, parted.rows, Weights(None)
+    lines, rows = parted.lines, parted.rows
     start = next((place for place, row in enumerate(rows) if row and row[0] != "c"), len(rows))
     reading = Reading(path, "dimacs", [], [], [], [], by_names=False, first=1, least=options.undirected == "min")
     head = start
@@ -607,15 +627,39 @@ def read_dimacs(parted: Parted, path: str, options: Options) -> Reading:
         if not reading.node_count:
             raise NotUnderstood(NODES, path=path, line=start + 1)
         start += 1
+    if parted.has_commas or not _take_all_arcs(rows, reading, start):
+        _take_arcs(parted, reading, start)
+    count = len(reading.weights)
+    if head < start and count < int(rows[head][3][:20]):
+        raise NotUnderstood(f"it says {rows[head][3]} arcs, and there are {count}", path=path, line=head + 1)
+    return reading
+
+
+def _take_all_arcs(rows: list[list[str]], reading: Reading, start: int) -> bool:
+    # Lines of an arc each, all at once, as a fast way; False where one of them is anything else.
+    rows = rows[start:]
+    if set(map(len, rows)) != {4} or any(row[0] != "a" for row in rows):
+        return False
+    weights = _plain_weights([row[3] for row in rows])
+    if weights is None:
+        return False
+    plain = Reading(reading.path, reading.form, [row[1] for row in rows], [row[2] for row in rows], weights, [])
+    if not all(map(is_label, plain.ends)):
+        return False
+    _take_plain(reading, plain, start)
+    return True
+
+
+def _take_arcs(parted: Parted, reading: Reading, start: int) -> None:
+    lines, rows, weights, path = parted.lines, parted.rows, Weights(None), reading.path
     numbers: list[int] = []
-    weight_of = weights.of
     for place in range(start, len(rows)):
         row = rows[place]
         if not row or row[0] == "c":
             continue
         if len(row) != 4 or row[0] != "a" or "," in lines[place]:
             raise NotUnderstood(ARC, path=path, line=place + 1)
-        weight = weight_of(row[3])
+        weight = weights.of(row[3])
         if weight is None:
             raise NotUnderstood(weights.text, path=path, line=place + 1)
         if not (is_label(row[1]) and is_label(row[2])):
@@ -625,9 +669,6 @@ def read_dimacs(parted: Parted, path: str, options: Options) -> Reading:
         reading.weights.append(weight)
         numbers.append(place + 1)
     reading.numbers = numbers
-    if head < start and len(numbers) < int(rows[head][3][:20]):
-        raise NotUnderstood(f"it says {rows[head][3]} arcs, and there are {len(numbers)}", path=path, line=head + 1)
-    return reading
 
 
 def read_relations(parted: Parted, path: str, options: Options) -> Reading:
